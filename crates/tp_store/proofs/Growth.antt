@@ -1,6 +1,7 @@
 -- What a tree is after it grows.
-use Rattle.std.proofs.Common.{◌≡◌, inl, inr, ℕ, suc, ◌^◌, ◌<◌, ◌≤◌, List, [], ◌∷◌, ◌++◌, length, slice_get, Some, None, refl, ap, ap₂, sym, ◌∙◌, subst, arith, append-nil, append_assoc}
+use Rattle.std.proofs.Common.{◌≡◌, inl, inr, ℕ, zero, suc, ◌^◌, ◌<◌, ◌≤◌, List, [], ◌∷◌, ◌++◌, length, set, slice_get, Option, Some, None, refl, ap, ap₂, sym, ◌∙◌, subst, arith, append-nil, append_assoc}
 use Rattle.std.specs.List.{IsDistinct}
+use Rattle.std.proofs.lemmas.Option.{slice_get_within}
 use Rattle.std.specs.Map.{keys_of, values_of}
 use Rattle.indexmap.specs.IndexMap.{insert_entry}
 use Rattle.tp_value.specs.declared.path.VarId.{VarId}
@@ -12,12 +13,24 @@ use Rattle.tp_store.specs.Facts.{kept_shape}
 use Rattle.tp_store.specs.Known.{NoClash, deepest}
 use Rattle.tp_store.specs.Changes.{HaveSameShapes}
 use Rattle.tp_store.specs.FactMap.{AreOfKind}
-use Rattle.tp_store.specs.Nodes.{bare_node, edge, same_edge, edges_in, nodes_in, child, routes, IsRooted, facts_along, facts_in_tree, shape_among, beyond_among, with_node, AreBeyond, AreNarrow, IsTree, HasMoreNodes, KeepsAll, IsRaised}
+use Rattle.tp_store.specs.Nodes.{bare_node, edge, same_edge, edges_in, nodes_in, child, routes, IsRooted, facts_along, facts_in_tree, shape_among, beyond_among, with_node, AreBeyond, AreNarrow, ArePlaces, IsTree, HasMoreNodes, KeepsAll, IsRaised}
 use Rattle.tp_store.proofs.Members.{In, in_right, kept_in, in_kept}
 use Rattle.tp_store.proofs.Same.{kept_depth}
-use Rattle.tp_store.proofs.Routes.{rooted_more, child_there, length_more}
+use Rattle.tp_store.proofs.Routes.{rooted_more, child_there, child_found, length_more}
 use Rattle.tp_store.proofs.Trees.{facts_grown, facts_same}
-use Rattle.tp_store.proofs.Ways.{length_keys, length_values, keys_more, values_more, entry_last, get_last, raised, bound_more, narrow_more, beyond_there, length_with}
+use Rattle.tp_store.proofs.Ways.{length_keys, length_values, keys_more, values_more, entry_last, get_last, raised, bound_more, narrow_more, get_of_more, slice_left, none_past, beyond_there, length_with}
+
+set_there : (xs : List ℕ) (n v : ℕ) → n < length xs → slice_get (set xs n v) n ≡ Some v
+set_there [] n v h = absurd (omega arith)
+set_there (x ∷ xs) zero v h = refl
+set_there (x ∷ xs) (suc n) v h = set_there xs n v (omega arith)
+
+set_other : (xs : List ℕ) (n k v : ℕ) → (k ≡ n → ⊥) → slice_get (set xs n v) k ≡ slice_get xs k
+set_other [] n k v h = refl
+set_other (x ∷ xs) zero zero v h = absurd (h refl)
+set_other (x ∷ xs) zero (suc k) v h = refl
+set_other (x ∷ xs) (suc n) zero v h = refl
+set_other (x ∷ xs) (suc n) (suc k) v h = set_other xs n k v (λ e. h (ap suc e))
 
 pub length_nodes : (t : Nodes) → length (nodes_in t) ≡ suc (length (edges_in t))
 length_nodes t = ap suc (length_values t.below.entries)
@@ -33,7 +46,8 @@ more_then a b c m n = record {
 }
 
 -- the same entries are the same tree
-module _ (mid new : Nodes) (entries : new.below.entries ≡ mid.below.entries) where
+module _ (mid new : Nodes) (entries : new.below.entries ≡ mid.below.entries)
+    (places : (k p : ℕ) → slice_get mid.places.items k ≡ Some p → slice_get new.places.items k ≡ Some p) where
   moved_edges : edges_in new ≡ edges_in mid
   moved_edges = ap keys_of entries
 
@@ -45,8 +59,14 @@ module _ (mid new : Nodes) (entries : new.below.entries ≡ mid.below.entries) w
       let R : List Edge → Type 0 = λ es. IsRooted 1 es × AreNarrow es in
       let B : List Edge → Type 0 = λ es. AreBeyond es (nodes_in new) in
       let N : List Node → Type 0 = λ ns. AreBeyond (edges_in mid) ns in
+      let P : List Edge → Type 0 = λ es. ArePlaces es new.places.items in
       let edges = subst R (sym moved_edges) (t.rooted, t.narrow) in
-      record { rooted = edges.0; narrow = edges.1; beyond = subst B (sym moved_edges) (subst N (sym moved_nodes) t.beyond) }
+      record {
+        rooted = edges.0;
+        placed = subst P (sym moved_edges) (λ i e q z. places e.index i (t.placed i e q z));
+        narrow = edges.1;
+        beyond = subst B (sym moved_edges) (subst N (sym moved_nodes) t.beyond);
+      }
 
   pub moved_more : HasMoreNodes mid new
   moved_more = record {
@@ -55,9 +75,19 @@ module _ (mid new : Nodes) (entries : new.below.entries ≡ mid.below.entries) w
     facts = λ b. ap₂ (λ es ns. facts_along b (routes es) ns) moved_edges moved_nodes;
   }
 
+-- an entry that wasn't there
+pub grown_long : (mid : Nodes) (fs : List (Edge × Node)) (node index : ℕ) → child (edges_in mid) node index ≡ None → fs ≡ insert_entry same_edge mid.below.entries (edge node index) bare_node
+    → length fs ≡ suc (length (edges_in mid))
+grown_long mid fs node index none e =
+    let a = ap length (entry_last mid.below.entries fs node index bare_node none e) in
+    let b = length_more mid.below.entries (edge node index, bare_node) in
+    let c = length_keys mid.below.entries in
+    omega (arith, a, b, c)
+
 -- a child that wasn't there
 module _ (mid new : Nodes) (node index : ℕ) (t : IsTree mid) (low : node < length (nodes_in mid)) (none : child (edges_in mid) node index ≡ None)
     (narrow : 0 < node → index < 2 ^ 32) (bound : 0 < node → index < beyond_among (nodes_in mid) node)
+    (placed : ArePlaces (edges_in mid ++ edge node index ∷ []) new.places.items)
     (entries : new.below.entries ≡ insert_entry same_edge mid.below.entries (edge node index) bare_node) where
   last : new.below.entries ≡ mid.below.entries ++ (edge node index, bare_node) ∷ []
   last = entry_last mid.below.entries new.below.entries node index bare_node none entries
@@ -73,6 +103,7 @@ module _ (mid new : Nodes) (node index : ℕ) (t : IsTree mid) (low : node < len
       let R : List Edge → Type 0 = λ es. IsRooted 1 es × AreNarrow es in
       let B : List Edge → Type 0 = λ es. AreBeyond es (nodes_in new) in
       let N : List Node → Type 0 = λ ns. AreBeyond (edges_in mid ++ edge node index ∷ []) ns in
+      let P : List Edge → Type 0 = λ es. ArePlaces es new.places.items in
       let long = length_nodes mid in
       let edges = subst R (sym new_edges) (
         rooted_more 1 (edges_in mid) (edge node index) t.rooted (omega (arith, low, long)),
@@ -80,6 +111,7 @@ module _ (mid new : Nodes) (node index : ℕ) (t : IsTree mid) (low : node < len
       ) in
       record {
         rooted = edges.0;
+        placed = subst P (sym new_edges) placed;
         narrow = edges.1;
         beyond = subst B (sym new_edges) (subst N (sym new_nodes) (bound_more (edges_in mid) (nodes_in mid) (edge node index) bare_node t.beyond bound));
       }
@@ -111,15 +143,18 @@ module _ (mid new : Nodes) (node index : ℕ) (t : IsTree mid) (low : node < len
 
 -- a node that keeps its shape
 module _ (old new : Nodes) (node : ℕ) (v : Node) (t : IsTree old) (edges : edges_in new ≡ edges_in old) (nodes : nodes_in new ≡ with_node (nodes_in old) node v)
-    (rises : beyond_among (nodes_in old) node ≤ v.beyond) where
+    (places : new.places.items ≡ old.places.items) (rises : beyond_among (nodes_in old) node ≤ v.beyond) where
   pub set_tree : IsTree new
   set_tree =
       let R : List Edge → Type 0 = λ es. IsRooted 1 es × AreNarrow es in
       let B : List Edge → Type 0 = λ es. AreBeyond es (nodes_in new) in
       let N : List Node → Type 0 = λ ns. AreBeyond (edges_in old) ns in
+      let P : List Edge → Type 0 = λ es. ArePlaces es new.places.items in
+      let Q : List ℕ → Type 0 = λ ps. ArePlaces (edges_in old) ps in
       let all = subst R (sym edges) (t.rooted, t.narrow) in
       record {
         rooted = all.0;
+        placed = subst P (sym edges) (subst Q (sym places) t.placed);
         narrow = all.1;
         beyond = subst B (sym edges) (subst N (sym nodes) (raised (edges_in old) (nodes_in old) node v rises t.beyond));
       }
@@ -130,12 +165,12 @@ module _ (old new : Nodes) (node : ℕ) (v : Node) (t : IsTree old) (edges : edg
     edges = edges;
     long = ap length nodes ∙ length_with (nodes_in old) node v;
     facts = λ b. ap₂ (λ es ns. facts_along b (routes es) ns) edges nodes ∙ facts_same b (routes (edges_in old)) (nodes_in old) node v shape;
-    bound = λ below.
+    bound =
         (let there : beyond_among (nodes_in new) node ≡ v.beyond = ap (λ ns. beyond_among ns node) nodes ∙ beyond_there (nodes_in old) node v low in
         omega (arith, there, l));
   }
 
-pub high_enough : (old : Nodes) (node index : ℕ) → IsTree old → (0 < node → index < beyond_among (nodes_in old) node) → IsRaised old node index old
+pub high_enough : (old : Nodes) (node index : ℕ) → IsTree old → index < beyond_among (nodes_in old) node → IsRaised old node index old
 high_enough old node index t l = record { tree = t; edges = refl; long = refl; facts = λ b. refl; bound = l }
 
 pub raised_more : (old mid : Nodes) (node index : ℕ) → IsRaised old node index mid → HasMoreNodes old mid
@@ -160,3 +195,49 @@ deepest_same fs gs n m s =
     let a = deepest_least fs (deepest gs) (λ f i. kept_depth gs f.path f.shape (sym (s f.path) ∙ in_kept fs f n i)) in
     let b = deepest_least gs (deepest fs) (λ g i. kept_depth fs g.path g.shape (s g.path ∙ in_kept gs g m i)) in
     omega (arith, a, b)
+
+-- one edge more: to an item, which has no place among the variables
+pub placed_item : (es : List Edge) (e : Edge) (places : List ℕ) → 0 < e.node → ArePlaces es places → ArePlaces (es ++ e ∷ []) places
+placed_item es e places low h i f q z = by (slice_get es i) refl
+  where
+    by : (o : Option Edge) → slice_get es i ≡ o → slice_get places f.index ≡ Some i
+    by None p =
+        let same : e ≡ f = get_of_more es e i f q (λ t. let n : None ≡ Some f = sym p ∙ t in cc n) in
+        let node : e.node ≡ f.node = ap (λ (x : Edge). x.node) same in
+        absurd (omega (arith, low, node, z))
+    by (Some g) p =
+        let left = slice_left es (e ∷ []) i g p in
+        let n : Some g ≡ Some f = sym left ∙ q in
+        h i f (p ∙ n) z
+
+-- or to a variable, whose place is written
+pub placed_root : (es : List Edge) (n : ℕ) (places : List ℕ) → n < length places → child es 0 n ≡ None → IsDistinct same_edge es → ArePlaces es places
+    → ArePlaces (es ++ edge 0 n ∷ []) (set places n (length es))
+placed_root es n places low none d h i f q z = by (slice_get es i) refl
+  where
+    by : (o : Option Edge) → slice_get es i ≡ o → slice_get (set places n (length es)) f.index ≡ Some i
+    by None p =
+        let same : edge 0 n ≡ f = get_of_more es (edge 0 n) i f q (λ t. let m : None ≡ Some f = sym p ∙ t in cc m) in
+        let past = none_past es i p in
+        let long = length_more es (edge 0 n) in
+        let within = slice_get_within (es ++ edge 0 n ∷ []) i f q in
+        let last : length es ≡ i = omega (arith, past, long, within) in
+        ap (slice_get (set places n (length es))) (sym (ap (λ (x : Edge). x.index) same)) ∙ set_there places n (length es) low ∙ ap Some last
+    by (Some g) p =
+        let left = slice_left es (edge 0 n ∷ []) i g p in
+        let m : Some g ≡ Some f = sym left ∙ q in
+        let there = p ∙ m in
+        let other : f.index ≡ n → ⊥ = λ e.
+        (let here : child es f.node f.index ≡ Some (suc i) = child_there es i f d there in
+        let gone : child es f.node f.index ≡ None = ap₂ (child es) z e ∙ none in
+        let y : Some (suc i) ≡ None = sym here ∙ gone in
+        cc y) in
+        set_other places n f.index (length es) other ∙ h i f there z
+
+-- where no edge stands at a variable's place, it has no node
+pub no_root : (es : List Edge) (places : List ℕ) (n : ℕ) → ArePlaces es places → ((i : ℕ) → slice_get places n ≡ Some i → slice_get es i ≡ Some (edge 0 n) → ⊥) → child es 0 n ≡ None
+no_root es places n h none = by (child es 0 n) refl
+  where
+    by : (o : Option ℕ) → child es 0 n ≡ o → o ≡ None
+    by None p = refl
+    by (Some c) p = let f = child_found es 0 n c p in absurd (none f.place (h f.place (edge 0 n) f.there refl) f.there)

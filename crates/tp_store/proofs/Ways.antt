@@ -62,6 +62,11 @@ values_past [] i h = refl
 values_past (x ∷ es) zero h = absurd (cc h)
 values_past (x ∷ es) (suc i) h = values_past es i h
 
+pub keys_past : (es : List (Edge × Node)) (i : ℕ) → slice_get es i ≡ None → slice_get (keys_of es) i ≡ None
+keys_past [] i h = refl
+keys_past (x ∷ es) zero h = absurd (cc h)
+keys_past (x ∷ es) (suc i) h = keys_past es i h
+
 pub shape_of_node : (ns : List Node) (i : ℕ) (n : Node) → slice_get ns i ≡ Some n → shape_among ns i ≡ n.shape
 shape_of_node [] i n h = absurd (cc)
 shape_of_node (m ∷ ns) zero n h = let s : m ≡ n = cc h in ap (λ (k : Node). k.shape) s
@@ -177,7 +182,7 @@ length_with (n ∷ ns) (suc i) v = ap suc (length_with ns i v)
 pub raised : (es : List Edge) (ns : List Node) (i : ℕ) (v : Node) → beyond_among ns i ≤ v.beyond → AreBeyond es ns → AreBeyond es (with_node ns i v)
 raised es ns i v h b j e q below = let more = beyond_rises ns i v e.node h in let low = b j e q below in omega (arith, more, low)
 
-get_of_more : {A : Type 0} (xs : List A) (x : A) (i : ℕ) (y : A) → slice_get (xs ++ x ∷ []) i ≡ Some y → (slice_get xs i ≡ Some y → ⊥) → x ≡ y
+pub get_of_more : {A : Type 0} (xs : List A) (x : A) (i : ℕ) (y : A) → slice_get (xs ++ x ∷ []) i ≡ Some y → (slice_get xs i ≡ Some y → ⊥) → x ≡ y
 get_of_more [] x zero y h n = cc h
 get_of_more [] x (suc i) y h n = absurd (cc h)
 get_of_more (z ∷ xs) x zero y h n = absurd (n h)

@@ -130,9 +130,15 @@ abbrev pub AreBeyond : List Edge → List Node → Type 0
 AreBeyond es ns =
     (i : ℕ) (e : Edge) → slice_get es i ≡ Some e → 0 < e.node → e.index < beyond_among ns e.node
 
--- The nodes are a tree, with bounds of their children.
+-- the place of each edge to a variable's node stands at the variable's number
+abbrev pub ArePlaces : List Edge → List ℕ → Type 0
+ArePlaces es places =
+    (i : ℕ) (e : Edge) → slice_get es i ≡ Some e → e.node ≡ 0 → slice_get places e.index ≡ Some i
+
+-- The nodes are a tree, with bounds of their children, and those of variables are found by number.
 pub record IsTree (t : Nodes) : Type 0 where
   pub rooted : IsRooted 1 (edges_in t)
+  pub placed : ArePlaces (edges_in t) t.places.items
   pub narrow : AreNarrow (edges_in t)
   pub beyond : AreBeyond (edges_in t) (nodes_in t)
 
@@ -148,7 +154,7 @@ pub record IsRaised (old : Nodes) (node index : ℕ) (new : Nodes) : Type 0 wher
   pub edges : edges_in new ≡ edges_in old
   pub long : length (nodes_in new) ≡ length (nodes_in old)
   pub facts : (b : Bool) → facts_in_tree b new ≡ facts_in_tree b old
-  pub bound : 0 < node → index < beyond_among (nodes_in new) node
+  pub bound : index < beyond_among (nodes_in new) node
 
 abbrev pub lacks_below : Option ℕ → (ℕ → Bool) → Bool
 lacks_below None f = false

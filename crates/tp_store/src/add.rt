@@ -314,7 +314,11 @@ impl Store {
         ensures ok { OnOk result (Adds (addition self.now.facts facts.now)) }
         ensures refused { IfErr result (IsRefusal (addition self.now.facts facts.now)) }
     {
-        check_in(self.alloc, part(&self.state, &self.fixed, var.lasting), facts)
+        check_in(
+            self.alloc,
+            part(&self.state, &self.fixed, var.lasting),
+            facts,
+        )
     }
 
     // Adds facts of one variable, which don't clash with each other. Where they are those of a value of the whole variable, it is kept

@@ -98,6 +98,7 @@ fn is_plain(shape: Option<Shape>) -> bool
 
 // Whether an item of the variable with that number is a number or a truth.
 fn has_plain(nodes: &Nodes, number: u64, index: u32) -> bool
+    requires { IsTree nodes.now }
     ensures { IsTrue result → IsNumberOrTruth (item_shape nodes.now number index) }
 {
     is_plain(nodes.item(number, index))
@@ -105,7 +106,8 @@ fn has_plain(nodes: &Nodes, number: u64, index: u32) -> bool
 
 // How many of its items, from the first on, are numbers and truths, where so many are.
 fn count_plain(nodes: &Nodes, number: u64, from: u32) -> u32
-    requires { ArePlainItems from number nodes.now }
+    requires tree { IsTree nodes.now }
+    requires plain { ArePlainItems from number nodes.now }
     ensures { ArePlainItems result number nodes.now }
 {
     let mut count = from;
@@ -121,7 +123,8 @@ fn count_plain(nodes: &Nodes, number: u64, from: u32) -> u32
 // The same after these facts of the variable came, of which the first may be of the next such item. That of another item leaves the count
 // as it is.
 fn plain_after(nodes: &Nodes, number: u64, from: u32, news: &[Fact]) -> u32
-    requires { ArePlainItems from number nodes.now }
+    requires tree { IsTree nodes.now }
+    requires plain { ArePlainItems from number nodes.now }
     ensures { ArePlainItems result number nodes.now }
 {
     let Some(first) = news.first() else {
@@ -135,6 +138,7 @@ fn plain_after(nodes: &Nodes, number: u64, from: u32, news: &[Fact]) -> u32
 
 // Whether the variable with that number is a list that has an item with this index, of which nothing is kept.
 fn lacks_shape(nodes: &Nodes, number: u64, index: u32) -> bool
+    requires { IsTree nodes.now }
     ensures { IsTrue result → LacksShape nodes.now number index }
 {
     match nodes.variable(number) {
@@ -143,11 +147,21 @@ fn lacks_shape(nodes: &Nodes, number: u64, index: u32) -> bool
     }
 }
 
+// What is remembered of the variable with that number.
+fn kept_of(lists: &IndexMap<u64, Remembered>, number: u64) -> Option<&Remembered>
+    ensures { option_copied result ≡ get nat_eq lists.now number }
+{
+    if lists.is_empty() {
+        return None;
+    }
+    lists.get(&number)
+}
+
 // How many of the variable's items are remembered to be numbers and truths.
 fn plain_of(lists: &IndexMap<u64, Remembered>, number: u64) -> u32
     ensures { CountsPlain (get nat_eq lists.now) number result }
 {
-    match lists.get(&number) {
+    match kept_of(lists, number) {
         Some(kept) => kept.plain,
         None => 0,
     }
@@ -157,7 +171,7 @@ fn plain_of(lists: &IndexMap<u64, Remembered>, number: u64) -> u32
 fn remember(lists: &mut IndexMap<u64, Remembered>, number: u64, now: Remembered)
     ensures { Replaces (get nat_eq lists.old) number now (get nat_eq lists.new) }
 {
-    if now.plain == 0 && now.value.is_none() && !lists.contains_key(&number) {
+    if now.plain == 0 && now.value.is_none() && kept_of(lists, number).is_none() {
         return;
     }
     let _ = lists.insert(number, now);
@@ -294,7 +308,7 @@ impl FactMap {
         if var.lasting != self.lasting {
             return None;
         }
-        match self.lists.get(&var.number) {
+        match kept_of(&self.lists, var.number) {
             Some(kept) => kept.value.as_ref(),
             None => None,
         }
@@ -364,7 +378,12 @@ impl FactMap {
     }
 
     /// Appends equal facts to those of these that are asked for.
-    pub fn copy_to(&self, alloc: Global, which: Which, facts: &mut Vec<Fact>) -> Result<(), NoMemory>
+    pub fn copy_to(
+        &self,
+        alloc: Global,
+        which: Which,
+        facts: &mut Vec<Fact>,
+    ) -> Result<(), NoMemory>
         ensures { OnOk result
             (facts.new.items ≡ facts.old.items ++ facts_among which self.now.facts) }
     {

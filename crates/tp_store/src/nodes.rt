@@ -1,5 +1,5 @@
 // Facts as a tree of paths: a node for each variable and each place in its value that a fact speaks of, and for those on the way there.
-ghost use Rattle.std.specs.Prelude.{◌≡◌, ◌<◌, ◌^◌, ◌++◌, [], ◌∷◌, length, slice_get, slice_index_or, false, Some, None, IfOk, OnOk, OnErr};
+ghost use Rattle.std.specs.Prelude.{◌≡◌, ◌<◌, ◌^◌, ◌++◌, [], ◌∷◌, length, slice_get, slice_index_or, false, Some, None, IfOk, OnOk, OnErr, ℕ};
 ghost use Rattle.std.specs.Hash as fed;
 ghost use Rattle.std.specs.Cmp.Rules.{hashing};
 ghost use Rattle.std.specs.List.{IsDistinct};
@@ -58,11 +58,29 @@ impl Which {
     }
 }
 
+// Makes the list reach past that number; what stands in it stays.
+fn reach(places: &mut Vec<u64>, number: u64) -> Result<(), NoMemory>
+    ensures kept { (k p : ℕ) → slice_get places.old.items k ≡ Some p
+        → slice_get places.new.items k ≡ Some p }
+    ensures ok { OnOk result (number < length places.new.items) }
+{
+    let Some(length) = number.checked_add(1) else {
+        return Err(NoMemory);
+    };
+    if places.len() < length as usize {
+        places.resize(length as usize, 0)?;
+    }
+    Ok(())
+}
+
 /// The nodes below the root, which is node 0: the i-th of them, from 0, is node i + 1 and is found by the edge that leads to it. The
 /// children of the root are the variables, by their numbers, and those of other nodes are items.
 #[derive(Drop)]
 pub struct Nodes {
     below: IndexMap<Edge, Node>,
+    // For each variable, by its number, the place of the edge that leads to its node, where it has one. Where the edge there is another
+    // one, it has none; so the node of a variable is found without a look by its edge, and a place may stay that is past.
+    places: Vec<u64>,
 }
 
 // A node at which nothing is kept, and which has no children.
@@ -79,6 +97,7 @@ impl Nodes {
     {
         Nodes {
             below: IndexMap::new(alloc),
+            places: Vec::new(alloc),
         }
     }
 
@@ -126,11 +145,32 @@ impl Nodes {
         }
     }
 
+    // The node of the variable with that number.
+    fn root(&self, number: u64) -> Option<u64>
+        requires { IsTree self.now }
+        ensures { result ≡ child (edges_in self.now) 0 number }
+    {
+        let _count = self.below.len();
+        if number >= self.places.len() as u64 {
+            return None;
+        }
+        let place = self.places[number as usize];
+        let Some((edge, _)) = self.below.get_index(place as usize) else {
+            return None;
+        };
+        if edge.node == 0 && edge.index == number {
+            Some(place + 1)
+        } else {
+            None
+        }
+    }
+
     /// The node to which the path leads.
     pub fn find(&self, path: &Path) -> Option<u64>
+        requires { IsTree self.now }
         ensures { result ≡ node_from (edges_in self.now) (way_of path.now) 0 }
     {
-        let mut node = self.child(0, path.var.number)?;
+        let mut node = self.root(path.var.number)?;
         for index in path.at.items.as_slice() {
             node = self.child(node, u64::from(*index))?;
         }
@@ -139,6 +179,7 @@ impl Nodes {
 
     /// What is kept at the node to which the path leads, where there is one.
     pub fn kept(&self, path: &Path) -> Option<Shape>
+        requires { IsTree self.now }
         ensures { result
             ≡ shape_found (nodes_in self.now) (node_from (edges_in self.now) (way_of path.now) 0) }
     {
@@ -150,17 +191,19 @@ impl Nodes {
 
     /// Whether there is a node of the variable with that number.
     pub fn leads_to(&self, number: u64) -> bool
+        requires { IsTree self.now }
         ensures { result ≡ false → child (edges_in self.now) 0 number ≡ None }
     {
-        self.child(0, number).is_some()
+        self.root(number).is_some()
     }
 
     /// What is kept of the variable with that number.
     pub fn variable(&self, number: u64) -> Option<Shape>
+        requires { IsTree self.now }
         ensures { result
             ≡ shape_found (nodes_in self.now) (node_from (edges_in self.now) (number ∷ []) 0) }
     {
-        match self.child(0, number) {
+        match self.root(number) {
             Some(node) => self.shape(node),
             None => None,
         }
@@ -168,9 +211,10 @@ impl Nodes {
 
     /// What is kept of an item of the variable with that number.
     pub fn item(&self, number: u64, index: u32) -> Option<Shape>
+        requires { IsTree self.now }
         ensures { result ≡ item_shape self.now number index }
     {
-        let list = self.child(0, number)?;
+        let list = self.root(number)?;
         let item = self.child(list, u64::from(index))?;
         self.shape(item)
     }
@@ -197,9 +241,10 @@ impl Nodes {
 
     /// Whether a shape on the way of the path has no item with the next of its indices.
     pub fn lacks(&self, path: &Path) -> bool
+        requires { IsTree self.now }
         ensures { result ≡ lacks_path (edges_in self.now) (nodes_in self.now) path.now }
     {
-        match self.child(0, path.var.number) {
+        match self.root(path.var.number) {
             Some(variable) => self.lacks_from(variable, path.at.items.as_slice()),
             None => false,
         }
@@ -210,6 +255,7 @@ impl Nodes {
         requires below { 0 < number }
         requires within { number < length (nodes_in self.old) }
         ensures edges { edges_in self.new ≡ edges_in self.old }
+        ensures places { self.new.places.items ≡ self.old.places.items }
         ensures nodes { nodes_in self.new ≡ with_node (nodes_in self.old) number node }
     {
         if let Some(kept) = self.below.get_index_mut((number - 1) as usize) {
@@ -217,16 +263,14 @@ impl Nodes {
         }
     }
 
-    // Raises the bound of a node past that index of an item, where it isn't. The root has none.
+    // Raises the bound of a node past that index of an item, where it isn't.
     fn raise(&mut self, node: u64, index: u64)
         requires tree { IsTree self.old }
+        requires below { 0 < node }
         requires from { node < length (nodes_in self.old) }
-        requires narrow { 0 < node → index < 2 ^ 32 }
+        requires narrow { index < 2 ^ 32 }
         ensures { IsRaised self.old node index self.new }
     {
-        if node == 0 {
-            return;
-        }
         let beyond = index + 1;
         let Some(parent) = self.node(node) else {
             return;
@@ -242,11 +286,12 @@ impl Nodes {
         }
     }
 
-    // Makes the child of a node with that index, which isn't there yet.
+    // Makes the child of a node with that index of an item, which isn't there yet.
     fn grow(&mut self, node: u64, index: u64) -> Result<u64, NoMemory>
         requires tree { IsTree self.old }
+        requires below { 0 < node }
         requires from { node < length (nodes_in self.old) }
-        requires narrow { 0 < node → index < 2 ^ 32 }
+        requires narrow { index < 2 ^ 32 }
         requires absent { child (edges_in self.old) node index ≡ None }
         ensures tree { IsTree self.new }
         ensures more { HasMoreNodes self.old self.new }
@@ -259,11 +304,12 @@ impl Nodes {
         Ok(self.below.len() as u64)
     }
 
-    // Leads to the child of a node with that index, which is made where it isn't there yet.
+    // Leads to the child of a node with that index of an item, which is made where it isn't there yet.
     fn lead(&mut self, node: u64, index: u64) -> Result<u64, NoMemory>
         requires tree { IsTree self.old }
+        requires below { 0 < node }
         requires from { node < length (nodes_in self.old) }
-        requires narrow { 0 < node → index < 2 ^ 32 }
+        requires narrow { index < 2 ^ 32 }
         ensures tree { IsTree self.new }
         ensures more { HasMoreNodes self.old self.new }
         ensures unique { IfOk result (λ n. IsDistinct same_edge (edges_in self.new)) }
@@ -276,6 +322,44 @@ impl Nodes {
         }
     }
 
+    // Makes the node of the variable with that number, which isn't there yet.
+    fn grow_root(&mut self, number: u64) -> Result<u64, NoMemory>
+        requires tree { IsTree self.old }
+        requires absent { child (edges_in self.old) 0 number ≡ None }
+        ensures tree { IsTree self.new }
+        ensures more { HasMoreNodes self.old self.new }
+        ensures unique { IfOk result (λ n. IsDistinct same_edge (edges_in self.new)) }
+        ensures within { IfOk result (λ n. n < length (nodes_in self.new)) }
+        ensures child { IfOk result (λ n. child (edges_in self.new) 0 number ≡ Some n) }
+    {
+        let _count = self.below.len();
+        reach(&mut self.places, number)?;
+        let edge = Edge {
+            node: 0,
+            index: number,
+        };
+        self.below.insert(edge, BARE)?;
+        let count = self.below.len() as u64;
+        self.places[number as usize] = count - 1;
+        Ok(count)
+    }
+
+    // Leads to the node of the variable with that number, which is made where it isn't there yet.
+    fn lead_root(&mut self, number: u64) -> Result<u64, NoMemory>
+        requires { IsTree self.old }
+        ensures tree { IsTree self.new }
+        ensures more { HasMoreNodes self.old self.new }
+        ensures unique { IfOk result (λ n. IsDistinct same_edge (edges_in self.new)) }
+        ensures within { IfOk result (λ n. n < length (nodes_in self.new)) }
+        ensures child { IfOk result (λ n. child (edges_in self.new) 0 number ≡ Some n) }
+    {
+        let _count = self.below.len();
+        match self.root(number) {
+            Some(found) => Ok(found),
+            None => self.grow_root(number),
+        }
+    }
+
     // Leads to the node of the path; the nodes that aren't there yet are made.
     fn make_way(&mut self, path: &Path) -> Result<u64, NoMemory>
         requires { IsTree self.old }
@@ -285,7 +369,7 @@ impl Nodes {
         ensures way { IfOk result (λ n.
             node_from (edges_in self.new) (way_of path.now) 0 ≡ Some n) }
     {
-        let mut node = self.lead(0, path.var.number)?;
+        let mut node = self.lead_root(path.var.number)?;
         for index in path.at.items.as_slice() {
             node = self.lead(node, u64::from(*index))?;
         }
@@ -312,6 +396,7 @@ impl Nodes {
         requires below { 0 < number }
         requires within { number < length (nodes_in self.old) }
         ensures edges { edges_in self.new ≡ edges_in self.old }
+        ensures places { self.new.places.items ≡ self.old.places.items }
         ensures nodes { nodes_in self.new ≡ with_shape_at (nodes_in self.old) number shape }
     {
         if let Some(node) = self.node(number) {

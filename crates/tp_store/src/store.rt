@@ -114,8 +114,10 @@ impl Store {
         ensures sound { IsSoundStore self.now }
     {
         let mut copies = Vec::new(self.alloc);
-        self.state.copy_to(self.alloc, Which::Below(below), &mut copies)?;
-        self.fixed.copy_to(self.alloc, Which::Below(below), &mut copies)?;
+        self.state
+            .copy_to(self.alloc, Which::Below(below), &mut copies)?;
+        self.fixed
+            .copy_to(self.alloc, Which::Below(below), &mut copies)?;
         if out.items.is_empty() {
             mem::swap(&mut out.items, &mut copies);
             return Ok(());

@@ -79,7 +79,7 @@ loop-i-preserved c =
     let I : List Fact → Type 0 = λ gs. In f gs in
     let mine : In f fs = subst I (sym split) (in_right f (take i fs) (f ∷ drop (i + 1) fs) (inl refl)) in
     record {
-      tree = set_tree cur new n _ inv.tree c.keep.ensures.edges c.keep.ensures.nodes (omega arith);
+      tree = set_tree cur new n _ inv.tree c.keep.ensures.edges c.keep.ensures.nodes c.keep.ensures.places (omega arith);
       edges = c.keep.ensures.edges ∙ inv.edges;
       kept = λ b a nc.
           (let k = inv.kept b a nc in

@@ -28,8 +28,8 @@ invariant_of-self c =
 pub returns-in_err-keep_facts-clause-of_kind : goal.returns-in_err-keep_facts-clause-of_kind
 returns-in_err-keep_facts-clause-of_kind c = kinds_of_tree c.self.inside.lasting c.keep_facts.new.nodes
 
-pub plain_after-plain-requires : goal.plain_after-plain-requires
-plain_after-plain-requires c =
+pub plain_after-plain-requires-clause-plain : goal.plain_after-plain-requires-clause-plain
+plain_after-plain-requires-clause-plain c =
     let b = c.self.inside.lasting in
     let n = c.args.var.number in
     let old = c.self.inside.nodes in

@@ -18,7 +18,7 @@ returns-in-Some c = λ v e.
     let fs = facts_in_tree b c.self.inside.nodes in
     let x : VarId = record { number = n; lasting = b } in
     let is : c.in-Some.kept.now.value ≡ Some v = sym c.as_ref.ensures.value ∙ e in
-    let found = sym c.get.ensures.value ∙ ap option_copied c.in-Some.is in
+    let found = sym c.kept_of.ensures ∙ ap option_copied c.in-Some.is in
     let said = subst (λ o. IsSaid o x fs) is (c.self.invariant.4 n c.in-Some.kept.now found).said in
     let known : full fs (path_along x []) ≡ value (tree v.value) = value_known fs x (tree v.value) said.0 said.1 in
     let var_is : c.args.var ≡ x = ap (λ k. record { number = n; lasting = k }) (beq_same _ _ (not_false _ c.if-var-self.false)) in
