@@ -4,7 +4,6 @@ use Rattle.std.specs.List.{IsDistinct}
 use Rattle.std.proofs.lemmas.Option.{slice_get_within}
 use Rattle.std.specs.Map.{keys_of, values_of}
 use Rattle.indexmap.specs.IndexMap.{insert_entry}
-use Rattle.tp_value.specs.declared.path.VarId.{VarId}
 use Rattle.tp_value.specs.declared.path.Fact.{Fact}
 use Rattle.tp_store.specs.declared.nodes.Edge.{Edge}
 use Rattle.tp_store.specs.declared.nodes.Node.{Node}
@@ -12,9 +11,8 @@ use Rattle.tp_store.specs.declared.nodes.Nodes.{Nodes}
 use Rattle.tp_store.specs.Facts.{kept_shape}
 use Rattle.tp_store.specs.Known.{NoClash, deepest}
 use Rattle.tp_store.specs.Changes.{HaveSameShapes}
-use Rattle.tp_store.specs.FactMap.{AreOfKind}
-use Rattle.tp_store.specs.Nodes.{bare_node, edge, same_edge, edges_in, nodes_in, child, routes, IsRooted, facts_along, facts_in_tree, shape_among, beyond_among, with_node, AreBeyond, AreNarrow, ArePlaces, IsTree, HasMoreNodes, KeepsAll, IsRaised}
-use Rattle.tp_store.proofs.Members.{In, in_right, kept_in, in_kept}
+use Rattle.tp_store.specs.Nodes.{bare_node, edge, same_edge, edges_in, nodes_in, child, routes, IsRooted, facts_along, shape_among, beyond_among, with_node, AreBeyond, AreNarrow, ArePlaces, IsTree, HasMoreNodes, KeepsAll, IsRaised}
+use Rattle.tp_store.proofs.Members.{In, in_kept}
 use Rattle.tp_store.proofs.Same.{kept_depth}
 use Rattle.tp_store.proofs.Routes.{rooted_more, child_there, child_found, length_more}
 use Rattle.tp_store.proofs.Trees.{facts_grown, facts_same}

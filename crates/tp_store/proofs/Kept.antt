@@ -1,5 +1,5 @@
 -- Facts that are kept in turn, each at its node.
-use Rattle.std.proofs.Common.{◌≡◌, inl, inr, ℕ, ◌+◌, true, false, List, [], ◌∷◌, ◌++◌, take, drop, None, refl, ap, sym, ◌∙◌, subst, append-nil, append_assoc}
+use Rattle.std.proofs.Common.{◌≡◌, inl, inr, ℕ, ◌+◌, false, List, [], ◌∷◌, ◌++◌, take, drop, None, refl, ap, sym, ◌∙◌, subst, append-nil, append_assoc}
 use Rattle.tp_value.specs.declared.path.Fact.{Fact}
 use Rattle.tp_store.specs.Facts.{same_path, clash, kept_shape}
 use Rattle.tp_store.specs.Known.{NoClash, clashes_with_some}

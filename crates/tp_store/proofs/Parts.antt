@@ -1,5 +1,5 @@
 -- The facts of a store: those of its state variables and those of its static ones.
-use Rattle.std.proofs.Common.{◌≡◌, ◌⊎◌, inl, inr, ℕ, zero, suc, ◌+◌, Bool, true, false, cond, nat_lt, List, [], ◌∷◌, ◌++◌, map, filter, length, Option, Some, None, slice_get, refl, ap, ap₂, sym, ◌∙◌, subst, arith}
+use Rattle.std.proofs.Common.{◌≡◌, ◌⊎◌, inl, inr, ℕ, zero, suc, Bool, true, false, cond, nat_lt, List, [], ◌∷◌, ◌++◌, map, Option, Some, None, slice_get, refl, ap, ap₂, sym, ◌∙◌, subst}
 use Rattle.std.proofs.lemmas.Bool.{false_from_ne_true}
 use Rattle.std.proofs.lemmas.List.{map-append}
 use Rattle.std.proofs.lemmas.List.Elements.{filter-append}
@@ -11,7 +11,7 @@ use Rattle.tp_store.specs.Facts.{same_path, clash, kept_shape, is_excluded, fact
 use Rattle.tp_store.specs.Known.{Contents, NoClash, Variable, IsVariableOf, AreOfVariables, lasting_facts, facts_below, full, addition, adds, new_store, global_variable}
 use Rattle.tp_store.specs.Entries.{variable_in, variables_in, contents_of, part_of, IsPart, AreParts}
 use Rattle.tp_store.specs.FactMap.{AreOf, AreOfKind, FactsOfKind, facts_among}
-use Rattle.tp_store.specs.declared.nodes.Which.TheVariants.{Below}
+use Rattle.tp_store.specs.declared.copies.Which.TheVariants.{Below}
 use Rattle.tp_store.specs.declared.entry.Entry.{Entry}
 use Rattle.tp_store.specs.Changes.{IsSoundStore, HaveSameShapes, AddsFacts, HasAppended}
 use Rattle.tp_store.proofs.Paths.{same_path-decides}

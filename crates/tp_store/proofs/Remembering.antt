@@ -1,22 +1,19 @@
 -- What is remembered of variables, while facts come.
-use Rattle.std.proofs.Common.{◌≡◌, ◌≢◌, ◌⊎◌, inl, inr, ℕ, zero, suc, Bool, true, false, cond, List, [], ◌∷◌, ◌++◌, Option, Some, None, slice_get, refl, ap, sym, ◌∙◌, subst, arith}
+use Rattle.std.proofs.Common.{◌≡◌, ◌≢◌, inl, inr, ℕ, Bool, List, [], ◌∷◌, ◌++◌, Option, Some, None, ap, sym, ◌∙◌, subst, arith}
 use Rattle.std.specs.declared.rc.Rc.{Rc}
 use Rattle.std.specs.declared.alloc.Global.{Global}
 use Rattle.tp_value.specs.declared.value.Value.{Value}
 use Rattle.tp_value.specs.Read.{tree}
-use Rattle.tp_value.specs.Limits.{is_within_list_limit}
 use Rattle.tp_value.specs.declared.path.VarId.{VarId}
-use Rattle.tp_value.specs.declared.path.Path.{Path}
 use Rattle.tp_value.specs.declared.path.Fact.{Fact}
 use Rattle.tp_store.specs.declared.fact_map.Remembered.{Remembered}
-use Rattle.tp_store.specs.Facts.{kept_shape}
-use Rattle.tp_store.specs.Known.{NoClash, addition, adds, known}
+use Rattle.tp_store.specs.Known.{NoClash, addition, adds}
 use Rattle.tp_store.specs.Changes.{HaveSameShapes}
 use Rattle.tp_store.specs.FactMap.{AreOf, FactsOfKind, IsNumberOrTruth}
 use Rattle.tp_store.specs.declared.nodes.Nodes.{Nodes}
 use Rattle.tp_store.specs.Nodes.{path_along, facts_in_tree, ArePlainBelow, KeepsAll}
-use Rattle.tp_store.specs.KeptValue.{SayWhole, IsSaid, IsSaidWith, AreOfValue, IsRemembered, AreRemembered, CountsPlain, Replaces}
-use Rattle.tp_store.proofs.Members.{In, in_left, in_append}
+use Rattle.tp_store.specs.KeptValue.{IsSaid, IsSaidWith, AreOfValue, IsRemembered, AreRemembered, CountsPlain, Replaces}
+use Rattle.tp_store.proofs.Members.{in_left, in_append}
 use Rattle.tp_store.proofs.Same.{AgreeAt, same_kept, same_whole}
 use Rattle.tp_store.proofs.States.{agree_all}
 use Rattle.tp_store.proofs.Parts.{of_in, kind_of}

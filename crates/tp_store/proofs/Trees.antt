@@ -4,13 +4,12 @@ use Rattle.std.specs.List.{IsDistinct}
 use Rattle.std.proofs.lemmas.Bool.{false_from_ne_true}
 use Rattle.std.proofs.lemmas.Option.{slice_get_within}
 use Rattle.tp_value.specs.declared.value.Shape.{Shape}
-use Rattle.tp_value.specs.declared.path.VarId.{VarId}
 use Rattle.tp_value.specs.declared.path.Path.{Path}
 use Rattle.tp_value.specs.declared.path.Fact.{Fact}
 use Rattle.tp_store.specs.Facts.{same_path, clash, kept_shape, fact}
 use Rattle.tp_store.specs.Known.{NoClash, clashes_with_some}
 use Rattle.tp_store.specs.FactMap.{is_among, facts_among}
-use Rattle.tp_store.specs.declared.nodes.Which.{Which}
+use Rattle.tp_store.specs.declared.copies.Which.{Which}
 use Rattle.tp_store.specs.declared.nodes.Edge.{Edge}
 use Rattle.tp_store.specs.declared.nodes.Node.{Node}
 use Rattle.tp_store.specs.Nodes.{bare_node, same_edge, child, node_or_none, node_from, routes, IsRooted, path_along, path_of, way_of, fact_where, facts_along, shape_among, shape_found, beyond_among, with_node, with_shape_at}

@@ -7,7 +7,6 @@ use Rattle.indexmap.specs.IndexMap.{insert_entry, set_value_at}
 use Rattle.indexmap.proofs.MapLemmas.{Missing-position, insert_entry-absent}
 use Rattle.std.proofs.lemmas.Bool.{or_cases, or_parts, both_ways, false_from_ne_true}
 use Rattle.std.proofs.Math.Seq.{drop-cons}
-use Rattle.tp_value.specs.declared.path.VarId.{VarId}
 use Rattle.tp_value.specs.declared.path.Path.{Path}
 use Rattle.tp_value.specs.declared.path.Fact.{Fact}
 use Rattle.tp_store.specs.declared.nodes.Edge.{Edge}

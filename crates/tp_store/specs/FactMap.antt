@@ -7,8 +7,8 @@ use Rattle.tp_value.specs.declared.path.Fact.{Fact}
 use Rattle.tp_value.specs.declared.value.Shape.TheVariants.{Num, Truth, Items}
 use Rattle.tp_store.specs.Facts.{has_item, kept_shape}
 use Rattle.tp_store.specs.Known.{first_clash}
-use Rattle.tp_store.specs.declared.nodes.Which.{Which}
-use Rattle.tp_store.specs.declared.nodes.Which.TheVariants.{Below, Of}
+use Rattle.tp_store.specs.declared.copies.Which.{Which}
+use Rattle.tp_store.specs.declared.copies.Which.TheVariants.{Below, Of}
 
 -- a shape is there, and has no item with this index
 abbrev pub lacks_item : Option Shape → ℕ → Bool

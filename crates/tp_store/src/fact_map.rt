@@ -14,7 +14,8 @@ ghost use Rattle.std.specs.declared.alloc.Global.{Global};
 ghost use Rattle.tp_value.specs.declared.value.Value.{Value as ValueSeen};
 
 use crate::clash::{clashes, is_earlier, same_shape};
-use crate::nodes::{Nodes, Which, copy_facts, keep_facts};
+use crate::copies::{Which, copy_facts};
+use crate::nodes::{Nodes, keep_facts};
 use indexmap::IndexMap;
 use std::alloc::Global;
 use std::marker::Model;

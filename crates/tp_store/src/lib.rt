@@ -1,8 +1,9 @@
-//! What is known of a state: facts without a clash, kept by variable, and the names of the variables.
+//! What is known of a state: facts without a clash, found by their paths, and the names of the variables.
 #![tactic(auto)]
 
 mod add;
 mod clash;
+mod copies;
 mod entry;
 mod fact_map;
 mod full;

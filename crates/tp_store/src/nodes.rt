@@ -1,10 +1,9 @@
 // Facts as a tree of paths: a node for each variable and each place in its value that a fact speaks of, and for those on the way there.
-ghost use Rattle.std.specs.Prelude.{◌≡◌, ◌<◌, ◌^◌, ◌++◌, [], ◌∷◌, length, slice_get, slice_index_or, false, Some, None, IfOk, OnOk, OnErr, ℕ};
+ghost use Rattle.std.specs.Prelude.{◌≡◌, ◌<◌, ◌^◌, ◌++◌, [], ◌∷◌, length, slice_get, slice_index_or, false, Some, None, IfOk, OnOk, OnErr, ℕ, Bool};
 ghost use Rattle.std.specs.Hash as fed;
 ghost use Rattle.std.specs.Cmp.Rules.{hashing};
 ghost use Rattle.std.specs.List.{IsDistinct};
 ghost use Rattle.std.proofs.Common.{rules};
-ghost use Rattle.tp_store.specs.FactMap.{is_among, facts_among};
 ghost use Rattle.tp_store.specs.Nodes.{edge_number, bare_node, edges_in, nodes_in, child, same_edge, node_from, routes, path_of, way_of, shape_among, shape_found, item_shape, lacks_way, lacks_path, with_node, with_shape_at, facts_in_tree, IsTree, HasMoreNodes, IsRaised, AreWays, KeepsAll};
 
 use crate::clash::lacks_item;
@@ -37,25 +36,6 @@ impl Hash for Edge {
 pub struct Node {
     pub shape: Option<Shape>,
     pub beyond: u64,
-}
-
-/// Which variables' facts are asked for: of those below a number, or of that with one.
-#[derive(Clone, Copy, Debug, PartialEq, Eq)]
-pub enum Which {
-    Below(u64),
-    Of(u64),
-}
-
-impl Which {
-    // Whether the facts of the variable with that number are asked for.
-    fn has(self, number: u64) -> bool
-        ensures { result ≡ is_among self number }
-    {
-        match self {
-            Which::Below(end) => number < end,
-            Which::Of(one) => number == one,
-        }
-    }
 }
 
 // Makes the list reach past that number; what stands in it stays.
@@ -418,6 +398,23 @@ impl Nodes {
         self.below.clear();
     }
 
+    /// The number of the variable of whose value the node with that number, which isn't the root, is a part.
+    pub fn owner(&self, number: u64) -> u64
+        requires tree { IsTree self.now }
+        requires below { 0 < number }
+        requires within { number < length (nodes_in self.now) }
+        ensures { (b : Bool) → result
+            ≡ (path_of b (slice_index_or (routes (edges_in self.now)) number [])).var.number }
+    {
+        let Some((edge, _)) = self.below.get_index((number - 1) as usize) else {
+            unreachable!();
+        };
+        if edge.node == 0 {
+            return edge.index;
+        }
+        self.owner(edge.node)
+    }
+
     /// The path of the node with that number, which isn't the root, of variables of this kind.
     pub fn path(&self, alloc: Global, lasting: bool, number: u64) -> Result<Path, NoMemory>
         requires tree { IsTree self.now }
@@ -473,29 +470,5 @@ pub fn keep_facts(nodes: &mut Nodes, alloc: Global, facts: &[Fact]) -> Result<()
     }
     let ways = nodes.make_ways(alloc, facts)?;
     keep_all(nodes, ways.as_slice(), facts);
-    Ok(())
-}
-
-/// Appends those of the facts that are asked for, as facts of variables of this kind.
-pub fn copy_facts(
-    alloc: Global,
-    lasting: bool,
-    nodes: &Nodes,
-    which: Which,
-    facts: &mut Vec<Fact>,
-) -> Result<(), NoMemory>
-    requires { IsTree nodes.now }
-    ensures { OnOk result (facts.new.items
-        ≡ facts.old.items ++ facts_among which (facts_in_tree lasting nodes.now)) }
-{
-    for number in 0..nodes.count() {
-        let number = number as u64 + 1;
-        if let Some(shape) = nodes.shape(number) {
-            let path = nodes.path(alloc, lasting, number)?;
-            if which.has(path.var.number) {
-                facts.push(Fact { path, shape })?;
-            }
-        }
-    }
     Ok(())
 }

@@ -6,9 +6,9 @@ ghost use Rattle.tp_store.specs.Known.{new_store, name_of, lasting_facts, facts_
 ghost use Rattle.tp_store.specs.Changes.{IsSoundStore, HaveSameShapes, HasAppended};
 ghost use Rattle.tp_store.specs.Entries.{part_of};
 
+use crate::copies::Which;
 use crate::entry::{Entry, global_entries, name_of};
 use crate::fact_map::FactMap;
-use crate::nodes::Which;
 use std::alloc::Global;
 use std::marker::Model;
 use std::mem;

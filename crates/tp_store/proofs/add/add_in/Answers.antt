@@ -1,6 +1,6 @@
-use Rattle.std.proofs.Common.{◌≡◌, ◌++◌, List, ap, sym, ◌∙◌, subst}
+use Rattle.std.proofs.Common.{◌++◌, List, ap, sym, ◌∙◌, subst}
 use Rattle.tp_value.specs.declared.path.Fact.{Fact}
-use Rattle.tp_store.specs.Known.{NoClash, addition, adds}
+use Rattle.tp_store.specs.Known.{NoClash, adds}
 use Rattle.tp_store.specs.FactMap.{AreOf}
 use Rattle.tp_store.proofs.Adding.{NoClash-adds}
 use Rattle.tp_store.proofs.Parts.{news_of}

@@ -1,5 +1,4 @@
 use Rattle.std.proofs.Common.{◌≡◌, true, false, refl, ap, sym, ◌∙◌, ℕ, ◌<◌, Some, None, slice_get, arith}
-use Rattle.tp_value.specs.declared.path.Fact.{Fact}
 use Rattle.tp_store.specs.Facts.{has_item}
 use Rattle.tp_store.specs.Nodes.{edges_in, nodes_in, node_from, way_of, beyond_among, shape_found, lacks_path}
 use Rattle.tp_store.proofs.Ways.{shape_of_node, beyond_of_node}

@@ -1,4 +1,4 @@
-use Rattle.std.proofs.Common.{◌≡◌, false, refl, ap, sym, ◌∙◌, Some, None}
+use Rattle.std.proofs.Common.{◌≡◌, refl, ap, sym, ◌∙◌, Some, None}
 use Rattle.tp_store.specs.Nodes.{edges_in, nodes_in, node_from, way_of, shape_found}
 use Rattle.tp_store.proofs.Growth.{length_nodes}
 use Rattle.tp_store.proofs.Clashes.{free_clash}

@@ -1,4 +1,4 @@
-use Rattle.std.proofs.Common.{◌≡◌, ap, sym, ◌∙◌}
+use Rattle.std.proofs.Common.{ap, sym, ◌∙◌}
 use Rattle.std.specs.Map.{values_of}
 use Rattle.tp_store.specs.Facts.{is_excluded}
 use Rattle.tp_store.specs.FactMap.{FactsOfKind}

@@ -1,7 +1,7 @@
-use Rattle.std.proofs.Common.{◌≡◌, sym, ◌∙◌, subst}
+use Rattle.std.proofs.Common.{◌≡◌, subst}
 use Rattle.tp_store.specs.Known.{addition, adds}
 use Rattle.tp_store.specs.FactMap.{FactsOfKind}
-use Rattle.tp_store.proofs.Clashes.{takes_all_of, not_true}
+use Rattle.tp_store.proofs.Clashes.{takes_all_of}
 use Rattle.tp_store.proofs.fact_map.FactMap.takes_all.Goals as goal
 
 pub returns-then-not-leads_to-clause-all : goal.returns-then-not-leads_to-clause-all

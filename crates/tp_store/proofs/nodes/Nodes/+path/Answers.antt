@@ -1,6 +1,5 @@
-use Rattle.std.proofs.Common.{rules, ◌≡◌, ◌-◌, ◌<◌, ◌++◌, ◌∷◌, [], suc, List, length, get_or, ap, sym, ◌∙◌, arith, option_map}
+use Rattle.std.proofs.Common.{rules, ◌≡◌, ◌-◌, ◌<◌, ◌++◌, ◌∷◌, [], suc, length, get_or, ap, sym, ◌∙◌, arith, option_map}
 use Rattle.std.specs.Map.Iter.{deref_pair}
-use Rattle.tp_value.specs.declared.path.Path.{Path}
 use Rattle.tp_store.specs.Nodes.{edges_in, nodes_in, routes, path_of, path_along}
 use Rattle.tp_store.proofs.Routes.{root_route, route_at, rooted_at}
 use Rattle.tp_store.proofs.Ways.{keys_at}

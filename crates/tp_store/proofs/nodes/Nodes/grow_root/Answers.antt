@@ -1,7 +1,7 @@
-use Rattle.std.proofs.Common.{◌≡◌, ◌-◌, ◌<◌, ◌++◌, ◌∷◌, [], ℕ, suc, None, Some, List, length, set, refl, ap, sym, ◌∙◌, subst, arith}
+use Rattle.std.proofs.Common.{◌≡◌, ◌-◌, ◌++◌, ◌∷◌, [], ℕ, Some, length, set, refl, ap, sym, ◌∙◌, subst, arith}
 use Rattle.std.specs.Vec.{with_item}
 use Rattle.tp_store.specs.declared.nodes.Nodes.{Nodes}
-use Rattle.tp_store.specs.Nodes.{edge, edges_in, nodes_in, ArePlaces, IsTree}
+use Rattle.tp_store.specs.Nodes.{edge, edges_in, ArePlaces}
 use Rattle.tp_store.proofs.Growth.{grown_long, moved_tree, new_tree, new_more, new_child, placed_root}
 use Rattle.tp_store.proofs.nodes.Nodes.grow_root.Goals as goal
 

@@ -1,4 +1,4 @@
-use Rattle.std.proofs.Common.{◌≡◌, ◌+◌, ◌∷◌, take, refl, ap, sym, subst, ◌∙◌, Some}
+use Rattle.std.proofs.Common.{◌≡◌, ◌+◌, ◌∷◌, take, ap, sym, subst, ◌∙◌, Some}
 use Rattle.tp_value.specs.declared.path.Path.{Path}
 use Rattle.tp_store.specs.Nodes.{edges_in, child, node_from, node_or_none}
 use Rattle.tp_store.proofs.Ways.{way_on, way_below, next_way}

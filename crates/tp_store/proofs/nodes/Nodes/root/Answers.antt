@@ -1,6 +1,5 @@
-use Rattle.std.proofs.Common.{◌≡◌, ◌<◌, ◌+◌, suc, ℕ, None, Some, slice_get, length, ap, ap₂, sym, ◌∙◌, subst, arith, option_map}
+use Rattle.std.proofs.Common.{◌≡◌, ◌+◌, suc, None, Some, slice_get, ap, ap₂, sym, ◌∙◌, arith, option_map}
 use Rattle.std.specs.Map.Iter.{deref_pair}
-use Rattle.std.proofs.lemmas.Bool.{lt-ltb, both_ways}
 use Rattle.std.proofs.lemmas.Option.{slice_get_within, slice_get-get_or}
 use Rattle.tp_store.specs.declared.nodes.Edge.{Edge}
 use Rattle.tp_store.specs.Nodes.{edges_in, edge, child}

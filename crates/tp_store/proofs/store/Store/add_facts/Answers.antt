@@ -1,6 +1,6 @@
-use Rattle.std.proofs.Common.{◌≡◌, Bool, true, false, refl, sym, ◌∙◌, subst}
+use Rattle.std.proofs.Common.{true, false, sym, ◌∙◌, subst}
 use Rattle.std.proofs.lemmas.Result.{err_from_is_err_and}
-use Rattle.tp_store.specs.Known.{addition, Addition}
+use Rattle.tp_store.specs.Known.{Addition}
 use Rattle.tp_store.specs.Answers.{IsRefusal}
 use Rattle.tp_store.specs.FactMap.{AreOfKind, FactsOfKind}
 use Rattle.tp_store.specs.Entries.{AreParts}

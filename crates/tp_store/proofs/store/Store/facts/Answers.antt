@@ -3,7 +3,7 @@ use Rattle.std.proofs.lemmas.List.{nil_from_length}
 use Rattle.std.proofs.lemmas.Bool.Decides.{Decides-eqb}
 use Rattle.tp_value.specs.declared.path.Fact.{Fact}
 use Rattle.tp_store.specs.FactMap.{facts_among}
-use Rattle.tp_store.specs.declared.nodes.Which.TheVariants.{Below}
+use Rattle.tp_store.specs.declared.copies.Which.TheVariants.{Below}
 use Rattle.tp_store.proofs.Parts.{sound_view, appended_is}
 use Rattle.tp_store.proofs.store.Store.facts.Goals as goal
 

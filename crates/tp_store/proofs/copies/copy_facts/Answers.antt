@@ -1,4 +1,4 @@
-use Rattle.std.proofs.Common.{◌≡◌, ◌≤◌, ◌<◌, ◌+◌, ◌++◌, ◌∷◌, [], suc, Some, None, List, length, get_or, drop, ap, ap₂, sym, ◌∙◌, arith, append-nil, append_assoc}
+use Rattle.std.proofs.Common.{◌≡◌, ◌≤◌, ◌<◌, ◌+◌, ◌++◌, ◌∷◌, [], suc, Some, None, List, length, get_or, drop, ap, sym, ◌∙◌, arith, append-nil, append_assoc}
 use Rattle.tp_value.specs.declared.path.Fact.{Fact}
 use Rattle.tp_value.specs.declared.path.Path.{Path}
 use Rattle.tp_store.specs.Facts.{fact}
@@ -7,8 +7,8 @@ use Rattle.tp_store.specs.Nodes.{edges_in, nodes_in, routes, path_of, facts_alon
 use Rattle.tp_store.proofs.Routes.{length_of_routes}
 use Rattle.tp_store.proofs.Trees.{facts_next, facts_end, asked_for, not_asked_for}
 use Rattle.tp_store.proofs.Growth.{length_nodes}
-use Rattle.tp_store.proofs.nodes.copy_facts.Goals as goal
-use Rattle.tp_store.proofs.nodes.copy_facts.Goals.{in-Some+in_ok-path+then-has+in_ok-push, in-Some+in_ok-path+else-has, in_default}
+use Rattle.tp_store.proofs.copies.copy_facts.Goals as goal
+use Rattle.tp_store.proofs.copies.copy_facts.Goals.{in-Some+then-has+in_ok-path+in_ok-push, in-Some+else-has, in_default}
 
 pub loop-number-preserved : goal.loop-number-preserved
 loop-number-preserved c =
@@ -28,19 +28,20 @@ loop-number-preserved c =
     let step = facts_next b rs ns (suc i) low (omega (arith, nodes, long_all)) ∙ ap (λ k. fact_where b (get_or rs (suc i) []) (shape_among ns (suc i)) ++ facts_along b (drop k rs) (drop k ns)) past in
     let kept = c.shape.ensures ∙ ap (shape_among ns) here in
     elim c.match-shape.branch [
-      | in-Some+in_ok-path+then-has+in_ok-push w ↦ (
+      | in-Some+then-has+in_ok-path+in_ok-push w ↦ (
           let shape : shape_among ns (suc i) ≡ Some w.in-Some.shape = sym kept ∙ w.in-Some.is in
           let path = w.in_ok-path.ensures ∙ ap (λ k. path_of b (get_or rs k [])) here in
+          let owner = ap (λ k. (path_of b (get_or rs k [])).var.number) (sym here) ∙ sym (w.owner.ensures b) in
           let whole = ap (facts_among which) (step ∙ ap (λ o. fact_where b (get_or rs (suc i) []) o ++ rest) shape)
-          ∙ asked_for which b (get_or rs (suc i) []) w.in-Some.shape rest (ap (λ (p : Path). is_among which p.var.number) (sym path) ∙ sym w.has.ensures ∙ w.if-has.true)
+          ∙ asked_for which b (get_or rs (suc i) []) w.in-Some.shape rest (ap (is_among which) owner ∙ sym w.has.ensures ∙ w.if-has.true)
           ∙ ap (λ (p : Path). fact p w.in-Some.shape ∷ facts_among which rest) (sym path) in
           ap (λ v. v.items ++ facts_among which rest) w.facts-is ∙ ap (λ (xs : List Fact). xs ++ facts_among which rest) w.in_ok-push.ensures.items ∙ append_assoc items (_ ∷ []) (facts_among which rest)
           ∙ ap (λ (xs : List Fact). items ++ xs) (sym whole) ∙ c.loop-number.invariant)
-      | in-Some+in_ok-path+else-has w ↦ (
+      | in-Some+else-has w ↦ (
           let shape : shape_among ns (suc i) ≡ Some w.in-Some.shape = sym kept ∙ w.in-Some.is in
-          let path = w.in_ok-path.ensures ∙ ap (λ k. path_of b (get_or rs k [])) here in
+          let owner = ap (λ k. (path_of b (get_or rs k [])).var.number) (sym here) ∙ sym (w.owner.ensures b) in
           let whole = ap (facts_among which) (step ∙ ap (λ o. fact_where b (get_or rs (suc i) []) o ++ rest) shape)
-          ∙ not_asked_for which b (get_or rs (suc i) []) w.in-Some.shape rest (ap (λ (p : Path). is_among which p.var.number) (sym path) ∙ sym w.has.ensures ∙ w.if-has.false) in
+          ∙ not_asked_for which b (get_or rs (suc i) []) w.in-Some.shape rest (ap (is_among which) owner ∙ sym w.has.ensures ∙ w.if-has.false) in
           ap (λ v. v.items ++ facts_among which rest) w.facts-is ∙ ap (λ (xs : List Fact). items ++ xs) (sym whole) ∙ c.loop-number.invariant)
       | in_default w ↦ (
           let none : shape_among ns (suc i) ≡ None = sym kept ∙ w.in_default.is in

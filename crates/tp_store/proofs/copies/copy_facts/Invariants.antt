@@ -1,7 +1,7 @@
 use Rattle.std.proofs.Common.{◌≡◌, ◌++◌, suc, drop}
 use Rattle.tp_store.specs.FactMap.{facts_among}
 use Rattle.tp_store.specs.Nodes.{edges_in, nodes_in, routes, facts_along, facts_in_tree}
-use Rattle.tp_store.proofs.nodes.copy_facts.Given as goal
+use Rattle.tp_store.proofs.copies.copy_facts.Given as goal
 
 abbrev pub invariant-loop-number : goal.invariant-loop-number
 invariant-loop-number l =
