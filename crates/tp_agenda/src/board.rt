@@ -3,22 +3,21 @@ ghost use Rattle.std.specs.Prelude.{◌≡◌, ◌↔◌, ◌≤◌, ◌<◌, �
 ghost use Rattle.std.specs.List.{All};
 ghost use Rattle.tp_lanes.specs.Planes.{flag};
 ghost use Rattle.tp_slots.specs.Kept.{IsUnchanged, IsWellKept};
-ghost use Rattle.tp_slots.specs.Read.{scene_of};
+ghost use Rattle.tp_slots.specs.Read.{scene_of, what_of};
 ghost use Rattle.tp_step.specs.declared.answer.Tried.TheVariants.{Reduced};
 ghost use Rattle.tp_agenda.specs.Agenda.{TriesNext};
 ghost use Rattle.tp_agenda.specs.Board.{FitsBoard, HasFlags, NewsAreNear, TakesIn, TakesNews, facts_decide, moving_among};
 ghost use Rattle.tp_agenda.specs.Held.{AddsReady};
 ghost use Rattle.tp_agenda.specs.Index.{IsFiled};
-ghost use Rattle.tp_agenda.specs.Ready.{may_move};
+ghost use Rattle.tp_agenda.specs.Ready.{may_move, what_moves};
 ghost use Rattle.tp_agenda.specs.Wakes.{AreOver, WakesOnly};
 
 use crate::index::{Index, file, no_waits};
-use crate::moving::may_move;
 use crate::wake::{Cause, wake_by};
 use std::alloc::Global;
 use tp_lanes::Plane;
-use tp_slots::remember;
-use tp_step::{Ending, News, Order, Scene, Tally, Tried, Wait, Waits, choose_place};
+use tp_slots::{What, remember};
+use tp_step::{Ending, News, Order, Scene, Tally, Tried, Wait, Waits, choose_place, has_item};
 use tp_value::{Facts, NoMemory};
 
 /// What a closure keeps beside its tally: the numbers of the ready items, which are below a bound; of each wait of the tally whether it
@@ -35,6 +34,35 @@ pub(crate) struct Board {
 
 // So many numbers a plane has in one row. Fewer take as much memory, and would have to grow more often.
 const LEAST_BOUND: u64 = 512;
+
+// Whether what stands there may move, where it is live.
+fn what_moves(what: &What) -> bool
+    ensures { result ≡ what_moves (what_of what.now) }
+{
+    match what {
+        What::Do(_) => true,
+        What::Later(_) | What::Shown(_) => false,
+        What::Split { .. } => true,
+        What::SplitProject { .. } => true,
+        What::Closed(_) => false,
+        What::Opened { .. } => true,
+        What::Running { .. } => false,
+        What::Gone { .. } => false,
+    }
+}
+
+// Whether an item with this number is live and may move.
+fn may_move(scene: &Scene, item: u64) -> bool
+    requires kept { IsWellKept scene.now }
+    ensures { result ≡ may_move item (scene_of scene.now).root.entries }
+{
+    if has_item(scene, item) {
+        let slot = &scene.slots[item as usize];
+        what_moves(&slot.what)
+    } else {
+        false
+    }
+}
 
 // The ready item whose turn it is.
 fn whose_turn(ready: &Plane, order: &mut Order) -> Option<u64>

@@ -7,7 +7,6 @@ mod closure;
 mod ends;
 mod index;
 mod laws;
-mod moving;
 mod wake;
 
 pub use closure::close_by_agenda;

@@ -12,8 +12,7 @@ ghost use Rattle.tp_slots.specs.Read.{item_what, scene_of};
 ghost use Rattle.tp_slots.specs.Reductions.{becomes_leaves};
 ghost use Rattle.tp_slots.specs.declared.scene.What.TheVariants as what;
 
-use crate::put::numbers;
-use crate::room::make_room;
+use crate::leaves::{make_room, numbers};
 use crate::scene::{Scene, Slot, What};
 use std::alloc::Global;
 use std::mem;

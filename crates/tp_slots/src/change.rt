@@ -8,7 +8,8 @@ ghost use Rattle.tp_slots.specs.Reductions.{CanMove, HoldsOne, IsAfter, IsBare, 
 ghost use Rattle.tp_slots.specs.Read.{scene_of, slots_of, what_of, whats_of, item_what};
 ghost use Rattle.tp_slots.specs.Kept.{IsWellKept, IsUnchanged, Lives, IsReducedTo};
 
-use crate::put::{numbers, put};
+use crate::leaves::numbers;
+use crate::put::put;
 use crate::scene::{Scene, What};
 use crate::walk::items_inside;
 use std::alloc::Global;

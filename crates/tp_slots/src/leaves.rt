@@ -1,5 +1,5 @@
 // Items without regions in an item's place.
-ghost use Rattle.std.specs.Prelude.{◌≡◌, ◌<◌, ◌≤◌, ◌+◌, ◌++◌, ◌^◌, [], length, IfOk, OnOk, OnErr, true, vec_len, vec_capacity};
+ghost use Rattle.std.specs.Prelude.{◌≡◌, ◌<◌, ◌≤◌, ◌+◌, ◌-◌, ◌++◌, ◌∷◌, ◌^◌, [], length, IfOk, None, OnOk, OnErr, true, vec_len, vec_capacity};
 ghost use Rattle.std.specs.Option.{option_map};
 ghost use Rattle.std.specs.List.{range_with_len};
 ghost use Rattle.tp_decide.specs.Decided.{mark_of, plain_leaf};
@@ -9,19 +9,102 @@ ghost use Rattle.tp_slots.specs.Kept.{HasRoomFor, IsUnchanged, IsShaped, IsQuiet
 ghost use Rattle.tp_slots.specs.Looks.{LooksFollow};
 ghost use Rattle.tp_slots.specs.News.{bare_leaves, new_items};
 ghost use Rattle.tp_slots.specs.Plain as plain;
-ghost use Rattle.tp_slots.specs.Read.{afters_of, all_slots, ends_of, goes_of, holders_of, item_home, item_what, scene_of, slot_afters, slots_of, what_of};
+ghost use Rattle.tp_slots.specs.Read.{afters_of, all_slots, ends_of, goes_of, holders_of, item_home, item_what, region_ends, region_goes, region_holders, region_slots, scene_of, slot_afters, slots_of, what_of};
 ghost use Rattle.tp_slots.specs.Reductions.{IsBare, becomes_leaves};
+ghost use Rattle.tp_slots.specs.Replace.{gone_at, home_in, marked_at};
 ghost use Rattle.tp_slots.specs.Row.{slots_in, stepped};
 ghost use Rattle.tp_slots.specs.Threads.{AreThreaded, afters_then, links};
 
 use crate::flags::raise;
 use crate::looks::pass_mark;
-use crate::put::{go, numbers, push_link, set_mark};
-use crate::room::make_room;
-use crate::scene::{Scene, Slot, What};
+use crate::scene::{Region, Scene, Slot, What};
 use std::alloc::Global;
 use tp_decide::{Leaf, Side};
 use tp_value::NoMemory;
+
+/// So many numbers, from the first on.
+#[tactic(auto, using(crate::proofs::Lists::range_more))]
+pub fn numbers(alloc: Global, first: u64, count: usize) -> Result<Vec<u64>, NoMemory>
+    requires { first + count < 2 ^ 64 }
+    ensures { IfOk result (λ v. v.items ≡ range_with_len first count) }
+{
+    let mut numbers = Vec::new(alloc);
+    for i in 0..count {
+        numbers.push(first + i as u64)?;
+    }
+    Ok(numbers)
+}
+
+/// Makes room for so many items more, or fails; the scene stays what it is.
+pub fn make_room(scene: &mut Scene, count: usize) -> Result<(), NoMemory>
+    ensures same { IsUnchanged scene.old scene.new }
+    ensures looks { scene.new.looks ≡ scene.old.looks }
+    ensures room { OnOk result (HasRoomFor count scene.new) }
+{
+    scene.slots.reserve(count)?;
+    Ok(())
+}
+
+/// The items with the numbers from the first on stand in the place of the item at `at`. What is answered is its region.
+#[tactic(auto, using(crate::proofs::Lists::gone_is, crate::proofs::Lists::home_is, crate::proofs::Lists::after_is))]
+pub fn go(list: &mut [Slot], at: usize, first: u64, count: u64) -> u64
+    requires { at < length list.old }
+    ensures slots { all_slots list.new
+        ≡ gone_at (all_slots list.old) at (range_with_len first count) }
+    ensures home { result ≡ home_in (all_slots list.old) at }
+    ensures afters { slot_afters list.new ≡ slot_afters list.old }
+{
+    let home = list[at].home;
+    list[at].what = What::Gone { first, count };
+    home
+}
+
+/// The region at `at` is marked.
+pub fn set_mark(list: &mut [Region], at: usize, side: Option<Side>)
+    requires { at < length list.old }
+    ensures slots { region_slots list.new
+        ≡ marked_at (region_slots list.old) at (option_map mark_of side) }
+    ensures holders { region_holders list.new ≡ region_holders list.old }
+    ensures ends { region_ends list.new ≡ region_ends list.old }
+    ensures goes { region_goes list.new ≡ region_goes list.old }
+{
+    match side {
+        Some(Side::Ending) => list[at].ends = true,
+        Some(Side::Going) => list[at].goes = true,
+        None => {}
+    }
+}
+
+/// Appends a slot of a region, or fails, which it doesn't where there is room. It is the first of so many that are left, of which the last
+/// one has the number before `last`. After it the next of them is visited, and `end` after the last.
+pub fn push_link(
+    list: &mut Vec<Slot>,
+    home: u64,
+    left: u64,
+    last: u64,
+    end: Option<u64>,
+    what: What,
+) -> Result<(), NoMemory>
+    requires some { 0 < left }
+    requires within { left ≤ last }
+    ensures slots { OnOk result (all_slots list.new.items
+        ≡ all_slots list.old.items ++ record { home = home; what = what_of what } ∷ []) }
+    ensures afters { OnOk result
+        (slot_afters list.new.items ++ links (last - (left - 1)) (left - 1) end
+        ≡ slot_afters list.old.items ++ links (last - left) left end) }
+    ensures len { OnOk result (vec_len list.new ≡ vec_len list.old + 1) }
+    ensures capacity { vec_capacity list.old ≤ vec_capacity list.new }
+    ensures full { OnErr result (vec_capacity list.old ≤ vec_len list.old) }
+{
+    let behind = left - 1;
+    let after = if behind == 0 {
+        end
+    } else {
+        Some(last - behind)
+    };
+    list.push(Slot { home, after, what })?;
+    Ok(())
+}
 
 // After a step that marked the region so, the flags are set that follow from the mark.
 fn raise_mark(scene: &mut Scene, region: u64, mark: Option<Side>)
@@ -120,6 +203,19 @@ pub fn place_leaves(scene: &mut Scene, item: u64, mark: Option<Side>, leaves: Ve
 {
     let home = commit_leaves(scene, item, mark, leaves);
     raise_mark(scene, home, mark);
+}
+
+/// Nothing stands in an item's place.
+pub fn vanish(alloc: Global, scene: &mut Scene, item: u64)
+    requires kept { IsWellKept scene.old }
+    requires lives { Lives scene.old item }
+    requires free { IsBare (item_what scene.old item) }
+    ensures kept { IsWellKept scene.new }
+    ensures scene { IsReducedTo item (becomes_leaves (scene_of scene.old) [] None)
+        scene.old scene.new }
+    ensures news { new_items (scene_of scene.old) (scene_of scene.new) ≡ [] }
+{
+    place_leaves(scene, item, None, Vec::new(alloc));
 }
 
 /// Items that hold no region stand in an item's place, and its region is marked. What became live is answered. Or nothing changes.

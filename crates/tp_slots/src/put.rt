@@ -1,5 +1,5 @@
 // Putting new items in place of one.
-ghost use Rattle.std.specs.Prelude.{◌≡◌, ◌≤◌, ◌<◌, ◌+◌, ◌-◌, ◌++◌, ◌∷◌, [], ◌^◌, false, slice_set, map, length, IfOk, OnOk, OnErr, vec_len, vec_capacity};
+ghost use Rattle.std.specs.Prelude.{◌≡◌, ◌≤◌, ◌<◌, ◌+◌, ◌-◌, ◌++◌, ◌^◌, false, slice_set, map, length, IfOk, OnOk, OnErr, vec_len, vec_capacity};
 ghost use Rattle.std.specs.Option.{option_map};
 ghost use Rattle.std.specs.List.{range_with_len};
 ghost use Rattle.tp_decide.specs.Decided.{mark_of};
@@ -7,27 +7,15 @@ ghost use Rattle.tp_slots.specs.Kept.{IsUnchanged, unset};
 ghost use Rattle.tp_slots.specs.Prepared.{IsPrepared};
 ghost use Rattle.tp_slots.specs.Read.{afters_of, ends_of, goes_of, holders_of, slots_of, what_of, region_slots, region_holders, region_ends, region_goes, all_slots, slot_afters, whats_of, slot_whats};
 ghost use Rattle.tp_slots.specs.Reductions.{AreBare};
-ghost use Rattle.tp_slots.specs.Replace.{home_in, gone_at, marked_at, replaced};
+ghost use Rattle.tp_slots.specs.Replace.{home_in, replaced};
 ghost use Rattle.tp_slots.specs.Row.{AreBelow, AllBelow, begun, hold, hold_all, slots_in, stepped, held_after};
 ghost use Rattle.tp_slots.specs.Threads.{afters_then, links, nothing_after};
 
+use crate::leaves::{go, numbers, push_link, set_mark};
 use crate::scene::{Region, Scene, Slot, What};
 use std::alloc::Global;
 use tp_decide::Side;
 use tp_value::NoMemory;
-
-/// So many numbers, from the first on.
-#[tactic(auto, using(crate::proofs::Lists::range_more))]
-pub fn numbers(alloc: Global, first: u64, count: usize) -> Result<Vec<u64>, NoMemory>
-    requires { first + count < 2 ^ 64 }
-    ensures { IfOk result (λ v. v.items ≡ range_with_len first count) }
-{
-    let mut numbers = Vec::new(alloc);
-    for i in 0..count {
-        numbers.push(first + i as u64)?;
-    }
-    Ok(numbers)
-}
 
 /// A region that begins with these items: nothing holds it yet, and it has no marks.
 pub fn new_region(roots: Vec<u64>) -> Region
@@ -83,37 +71,6 @@ fn push_in(list: &mut Vec<Slot>, home: u64, whats: Vec<What>) -> Result<(), NoMe
     Ok(())
 }
 
-/// Appends a slot of a region, or fails, which it doesn't where there is room. It is the first of so many that are left, of which the last
-/// one has the number before `last`. After it the next of them is visited, and `end` after the last.
-pub fn push_link(
-    list: &mut Vec<Slot>,
-    home: u64,
-    left: u64,
-    last: u64,
-    end: Option<u64>,
-    what: What,
-) -> Result<(), NoMemory>
-    requires some { 0 < left }
-    requires within { left ≤ last }
-    ensures slots { OnOk result (all_slots list.new.items
-        ≡ all_slots list.old.items ++ record { home = home; what = what_of what } ∷ []) }
-    ensures afters { OnOk result
-        (slot_afters list.new.items ++ links (last - (left - 1)) (left - 1) end
-        ≡ slot_afters list.old.items ++ links (last - left) left end) }
-    ensures len { OnOk result (vec_len list.new ≡ vec_len list.old + 1) }
-    ensures capacity { vec_capacity list.old ≤ vec_capacity list.new }
-    ensures full { OnErr result (vec_capacity list.old ≤ vec_len list.old) }
-{
-    let behind = left - 1;
-    let after = if behind == 0 {
-        end
-    } else {
-        Some(last - behind)
-    };
-    list.push(Slot { home, after, what })?;
-    Ok(())
-}
-
 // Appends slots of one region, or fails. The first one has this number; each is visited after the one before it, and `end` after the last.
 fn push_linked(
     list: &mut Vec<Slot>,
@@ -158,36 +115,6 @@ fn push_regions(list: &mut Vec<Region>, news: Vec<Region>)
         let Ok(()) = list.push(region) else {
             unreachable!();
         };
-    }
-}
-
-/// The items with the numbers from the first on stand in the place of the item at `at`. What is answered is its region.
-#[tactic(auto, using(crate::proofs::Lists::gone_is, crate::proofs::Lists::home_is, crate::proofs::Lists::after_is))]
-pub fn go(list: &mut [Slot], at: usize, first: u64, count: u64) -> u64
-    requires { at < length list.old }
-    ensures slots { all_slots list.new
-        ≡ gone_at (all_slots list.old) at (range_with_len first count) }
-    ensures home { result ≡ home_in (all_slots list.old) at }
-    ensures afters { slot_afters list.new ≡ slot_afters list.old }
-{
-    let home = list[at].home;
-    list[at].what = What::Gone { first, count };
-    home
-}
-
-/// The region at `at` is marked.
-pub fn set_mark(list: &mut [Region], at: usize, side: Option<Side>)
-    requires { at < length list.old }
-    ensures slots { region_slots list.new
-        ≡ marked_at (region_slots list.old) at (option_map mark_of side) }
-    ensures holders { region_holders list.new ≡ region_holders list.old }
-    ensures ends { region_ends list.new ≡ region_ends list.old }
-    ensures goes { region_goes list.new ≡ region_goes list.old }
-{
-    match side {
-        Some(Side::Ending) => list[at].ends = true,
-        Some(Side::Going) => list[at].goes = true,
-        None => {}
     }
 }
 

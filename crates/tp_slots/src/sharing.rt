@@ -10,9 +10,7 @@ ghost use Rattle.tp_slots.specs.News.{bare_leaves, new_items};
 ghost use Rattle.tp_slots.specs.Read.{item_what, scene_of};
 ghost use Rattle.tp_slots.specs.Reductions.{IsBare, becomes_leaves};
 
-use crate::leaves::place_leaves;
-use crate::put::numbers;
-use crate::room::make_room;
+use crate::leaves::{make_room, numbers, place_leaves};
 use crate::scene::Scene;
 use std::alloc::Global;
 use tp_decide::Leaf;

@@ -5,8 +5,8 @@ use Rattle.tp_slots.specs.Read.{slot_of}
 use Rattle.tp_slots.specs.Threads.{links}
 use Rattle.tp_slots.specs.declared.scene.Slot.{Slot}
 use Rattle.tp_slots.proofs.Threading.{links_more}
-use Rattle.tp_slots.proofs.put.push_link.Goals.{then-behind-eq0, else-behind-eq0}
-use Rattle.tp_slots.proofs.put.push_link.Goals as goal
+use Rattle.tp_slots.proofs.leaves.push_link.Goals.{then-behind-eq0, else-behind-eq0}
+use Rattle.tp_slots.proofs.leaves.push_link.Goals as goal
 
 pub returns-clause-slots : goal.returns-clause-slots
 returns-clause-slots c =

@@ -8,7 +8,7 @@ use Rattle.tp_slots.specs.Replace.{marked_at}
 use Rattle.tp_slots.specs.Read.{region_slot_of}
 use Rattle.tp_slots.specs.declared.scene.Region.{Region}
 use Rattle.tp_slots.proofs.Lists.{set_same, set_marked}
-use Rattle.tp_slots.proofs.put.set_mark.Goals as goal
+use Rattle.tp_slots.proofs.leaves.set_mark.Goals as goal
 
 pub returns-in-Some-Ending-clause-slots : goal.returns-in-Some-Ending-clause-slots
 returns-in-Some-Ending-clause-slots c = set_marked c.args.list.now c.args.at c.index-list-at.result _ (Some Ending) c.requires refl ∙ ap (λ o. marked_at (map region_slot_of c.args.list.now) c.args.at (option_map mark_of o)) (sym is)

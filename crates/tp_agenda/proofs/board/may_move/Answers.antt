@@ -7,7 +7,7 @@ use Rattle.tp_slots.proofs.Showing.{all_shown}
 use Rattle.tp_step.proofs.ChoiceLemmas.{what_read}
 use Rattle.tp_agenda.specs.Ready.{what_moves}
 use Rattle.tp_agenda.proofs.SlotMoves.{says_moving, gone_stays}
-use Rattle.tp_agenda.proofs.moving.may_move.Goals as goal
+use Rattle.tp_agenda.proofs.board.may_move.Goals as goal
 
 pub index-slot-requires : goal.index-slot-requires
 index-slot-requires c =
