@@ -15,8 +15,9 @@ ghost use Rattle.tp_agenda.specs.Wakes.{AreOver, WakesOnly};
 use crate::index::{Index, file, no_waits};
 use crate::wake::{Cause, wake_by};
 use std::alloc::Global;
+use tp_decide::Leaf;
 use tp_lanes::Plane;
-use tp_slots::{What, remember};
+use tp_slots::{Holder, What, remember};
 use tp_step::{Ending, News, Order, Scene, Tally, Tried, Wait, Waits, choose_place, has_item};
 use tp_value::{Facts, NoMemory};
 
@@ -40,13 +41,11 @@ fn what_moves(what: &What) -> bool
     ensures { result ≡ what_moves (what_of what.now) }
 {
     match what {
-        What::Do(_) => true,
-        What::Later(_) | What::Shown(_) => false,
-        What::Split { .. } => true,
-        What::SplitProject { .. } => true,
-        What::Closed(_) => false,
-        What::Opened { .. } => true,
-        What::Running { .. } => false,
+        What::Leaf(Leaf::Do(_)) => true,
+        What::Leaf(Leaf::Later(_) | Leaf::Shown(_)) => false,
+        What::Holder(Holder::Split { .. } | Holder::SplitProject { .. }) => true,
+        What::Holder(Holder::Opened { .. }) => true,
+        What::Holder(Holder::Closed(_) | Holder::Running { .. }) => false,
         What::Gone { .. } => false,
     }
 }

@@ -16,7 +16,7 @@ ghost use Rattle.tp_agenda.specs.Wakes.{AreOver, WakesOnly};
 use crate::board::Board;
 use crate::wake::{Cause, wake_by};
 use std::alloc::Global;
-use tp_slots::What;
+use tp_slots::{Holder, What};
 use tp_step::{Mark, Scene, Wait, mark, own_items};
 use tp_value::NoMemory;
 
@@ -86,23 +86,24 @@ fn add_held(left: &mut Vec<u64>, what: &What) -> Result<(), NoMemory>
         (left.new.items ≡ left.old.items ++ held_by_what (what_of what.now)) }
 {
     match what {
-        What::Do(_) | What::Later(_) | What::Shown(_) => {}
-        What::Gone { .. } => {}
-        What::Split { left: held, .. } => left.push(*held)?,
-        What::SplitProject {
-            left: held,
-            outer,
-            ..
-        } => {
-            left.push(*held)?;
-            left.push(*outer)?;
-        }
-        What::Closed(closed) => left.push(*closed)?,
-        What::Opened { outer, .. } => left.push(*outer)?,
-        What::Running { inner, outer, .. } => {
-            left.push(*inner)?;
-            left.push(*outer)?;
-        }
+        What::Leaf(_) | What::Gone { .. } => {}
+        What::Holder(holder) => match holder {
+            Holder::Split { left: held, .. } => left.push(*held)?,
+            Holder::SplitProject {
+                left: held,
+                outer,
+                ..
+            } => {
+                left.push(*held)?;
+                left.push(*outer)?;
+            }
+            Holder::Closed(closed) => left.push(*closed)?,
+            Holder::Opened { outer, .. } => left.push(*outer)?,
+            Holder::Running { inner, outer, .. } => {
+                left.push(*inner)?;
+                left.push(*outer)?;
+            }
+        },
     }
     Ok(())
 }

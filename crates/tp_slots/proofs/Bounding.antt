@@ -4,6 +4,7 @@ use Rattle.std.specs.Prelude.{slice_set}
 use Rattle.std.proofs.lemmas.List.{get_or-map, length-map, map-append, set-get_or, get_or-set_same, set-set}
 use Rattle.tp_scene.specs.Scene as S
 use Rattle.tp_scene.specs.Pick.{scene_after}
+use Rattle.tp_decide.specs.declared.decision.Leaf.TheVariants.{Do}
 use Rattle.tp_decide.specs.declared.phrase.Phrase.{Phrase}
 use Rattle.tp_decide.specs.ReadPhrase.{env_of, formula_of}
 use Rattle.tp_slots.specs.Bound.{IsDueUnder, IsTakenOut, slot_in, slot_with}
@@ -18,7 +19,7 @@ use Rattle.tp_slots.specs.Threads.{after_at}
 use Rattle.tp_slots.specs.declared.scene.Region.{Region}
 use Rattle.tp_slots.specs.declared.scene.Scene.{Scene}
 use Rattle.tp_slots.specs.declared.scene.Slot.{Slot}
-use Rattle.tp_slots.specs.declared.scene.What.TheVariants.{Do, Gone}
+use Rattle.tp_slots.specs.declared.scene.What.TheVariants.{Leaf, Gone}
 use Rattle.tp_slots.proofs.Changing.{lives_within, same_slots}
 use Rattle.tp_slots.proofs.Lists.{after_is, gone_is, home_is}
 use Rattle.tp_slots.proofs.Unmarked.{one_stepped, unmarked_leaves_kept, unmarked_leaves_news, unmarked_leaves_scene}
@@ -41,13 +42,13 @@ module _ (t next : ℕ) (old mid : List Slot) (taken : Phrase) (within : t < len
   emptied : slot_in mid t ≡ slot_with (slot_in old t) (Gone next 1)
   emptied = ap (λ xs. slot_in xs t) out.slots ∙ get_or-set_same old t (slot_with (slot_in old t) (Gone next 1)) (record { home = 0; after = None; what = Gone 0 0 }) within
 
-  all_back : (new : List Slot) → new ≡ slice_set mid t (slot_with (slot_in mid t) (Do taken)) → new ≡ old
+  all_back : (new : List Slot) → new ≡ slice_set mid t (slot_with (slot_in mid t) (Leaf (Do taken))) → new ≡ old
   all_back new is =
       let x = slot_in old t in
-      let same : slot_with (slot_in mid t) (Do taken) ≡ x = ap (λ y. slot_with y (Do taken)) emptied ∙ sym out.was in
+      let same : slot_with (slot_in mid t) (Leaf (Do taken)) ≡ x = ap (λ y. slot_with y (Leaf (Do taken))) emptied ∙ sym out.was in
       is ∙ ap (slice_set mid t) same ∙ ap (λ xs. slice_set xs t x) out.slots ∙ set-set old t (slot_with x (Gone next 1)) x ∙ set-get_or old t (record { home = 0; after = None; what = Gone 0 0 })
 
-  module _ (phrase : Phrase) (new : List Slot) (is : new ≡ mid ++ slot_with (slot_in mid t) (Do phrase) ∷ []) where
+  module _ (phrase : Phrase) (new : List Slot) (is : new ≡ mid ++ slot_with (slot_in mid t) (Leaf (Do phrase)) ∷ []) where
     -- one item more, where that one was
     pub more_slots : map slot_of new ≡ gone_at (map slot_of old) t (next ∷ []) ++ record { home = home_in (map slot_of old) t; what = plain.bare (S.Do (formula_of phrase) (env_of phrase)) } ∷ []
     more_slots =
@@ -55,7 +56,7 @@ module _ (t next : ℕ) (old mid : List Slot) (taken : Phrase) (within : t < len
         let due = plain.bare (S.Do (formula_of phrase) (env_of phrase)) in
         let gone : map slot_of mid ≡ gone_at (map slot_of old) t (next ∷ []) = ap (map slot_of) out.slots ∙ gone_is old t d (Gone next 1) (next ∷ []) within refl in
         let home : (slot_in mid t).home ≡ home_in (map slot_of old) t = ap (λ (x : Slot). x.home) emptied ∙ home_is old t d within in
-        ap (map slot_of) is ∙ map-append slot_of mid (slot_with (slot_in mid t) (Do phrase) ∷ []) ∙ (λ i. gone i ++ record { home = home i; what = due } ∷ [])
+        ap (map slot_of) is ∙ map-append slot_of mid (slot_with (slot_in mid t) (Leaf (Do phrase)) ∷ []) ∙ (λ i. gone i ++ record { home = home i; what = due } ∷ [])
 
     pub more_afters : map (λ (x : Slot). x.after) new ≡ map (λ (x : Slot). x.after) old ++ after_at (map (λ (x : Slot). x.after) old) t ∷ []
     more_afters =
@@ -63,14 +64,14 @@ module _ (t next : ℕ) (old mid : List Slot) (taken : Phrase) (within : t < len
         let after : Slot → Option ℕ = λ x. x.after in
         let all : map after mid ≡ map after old = ap (map after) out.slots ∙ after_is old t d (Gone next 1) within in
         let one : (slot_in mid t).after ≡ after_at (map after old) t = ap after emptied ∙ sym (get_or-map after old t d None within) in
-        ap (map after) is ∙ map-append after mid (slot_with (slot_in mid t) (Do phrase) ∷ []) ∙ (λ i. all i ++ one i ∷ [])
+        ap (map after) is ∙ map-append after mid (slot_with (slot_in mid t) (Leaf (Do phrase)) ∷ []) ∙ (λ i. all i ++ one i ∷ [])
 
 -- where room was made before
 pub out_before : (s r : Scene) (t k : ℕ) (taken : Phrase) (mid : List Slot) → IsUnchanged s r → IsTakenOut t k r.slots.items taken mid → IsTakenOut t k s.slots.items taken mid
 out_before s r t k taken mid same out = subst (λ xs. IsTakenOut t k xs taken mid) same.slots out
 
 -- nothing was changed in the end
-pub back_unchanged : (s new : Scene) (t k : ℕ) (taken : Phrase) (mid : List Slot) → IsWellKept s → Lives s t → IsTakenOut t k s.slots.items taken mid → new.slots.items ≡ slice_set mid t (slot_with (slot_in mid t) (Do taken)) → new.regions.items ≡ s.regions.items → IsUnchanged s new
+pub back_unchanged : (s new : Scene) (t k : ℕ) (taken : Phrase) (mid : List Slot) → IsWellKept s → Lives s t → IsTakenOut t k s.slots.items taken mid → new.slots.items ≡ slice_set mid t (slot_with (slot_in mid t) (Leaf (Do taken))) → new.regions.items ≡ s.regions.items → IsUnchanged s new
 back_unchanged s new t k taken mid kept lives out slots regions = record {
   slots = all_back t k s.slots.items mid taken (lives_within s t kept.shape.ordered lives) out new.slots.items slots;
   regions = regions;
@@ -84,7 +85,7 @@ module _ (s : Scene) (t k : ℕ) (taken : Phrase) (mid : List Slot) (kept : IsWe
       let same : IsDueUnder env (plain.bare (S.Do (formula_of taken) (env_of taken))) = subst (IsDueUnder env) is due in
       same
 
-  module _ (free : IsBare (item_what s t)) (number : k ≡ length s.slots.items) (phrase : Phrase) (next : Scene) (items : next.slots.items ≡ mid ++ slot_with (slot_in mid t) (Do phrase) ∷ [])
+  module _ (free : IsBare (item_what s t)) (number : k ≡ length s.slots.items) (phrase : Phrase) (next : Scene) (items : next.slots.items ≡ mid ++ slot_with (slot_in mid t) (Leaf (Do phrase)) ∷ [])
       (regions : next.regions.items ≡ s.regions.items) where
     within : t < length s.slots.items
     within = lives_within s t kept.shape.ordered lives

@@ -2,27 +2,32 @@
 use Rattle.std.specs.Prelude.{ℕ, Bool, List, map, Option, Some, None}
 use Rattle.std.specs.List.{range_with_len}
 use Rattle.tp_scene.specs.Scene as S
-use Rattle.tp_decide.specs.Read.{values_of}
-use Rattle.tp_decide.specs.ReadPhrase.{formula_of, env_of}
+use Rattle.tp_decide.specs.Decided.{plain_leaf}
+use Rattle.tp_decide.specs.Read.{formula_of, env_of}
 use Rattle.tp_slots.specs.Plain as plain
 use Rattle.tp_slots.specs.declared.scene.Scene.{Scene}
 use Rattle.tp_slots.specs.declared.scene.Slot.{Slot}
 use Rattle.tp_slots.specs.declared.scene.Region.{Region}
+use Rattle.tp_slots.specs.declared.scene.Holder.{Holder}
+use Rattle.tp_slots.specs.declared.scene.Holder.TheVariants.{Split, SplitProject, Closed, Opened, Running}
 use Rattle.tp_slots.specs.declared.scene.What.{What}
-use Rattle.tp_slots.specs.declared.scene.What.TheVariants.{Do, Later, Shown, Split, SplitProject, Closed, Opened, Running, Gone}
+use Rattle.tp_slots.specs.declared.scene.What.TheVariants as what
+
+abbrev pub plain_holder : Holder → plain.What
+plain_holder (Split left after) =
+    plain.holds (S.Split (formula_of after) (env_of after)) left None
+plain_holder (SplitProject left outer piece) =
+    plain.holds (S.SplitProject (formula_of piece) (env_of piece)) left (Some outer)
+plain_holder (Closed closed) = plain.holds S.Closed closed None
+plain_holder (Opened outer piece) =
+    plain.holds (S.Opened (formula_of piece) (env_of piece)) outer None
+plain_holder (Running inner outer piece) =
+    plain.holds (S.Running (formula_of piece) (env_of piece)) inner (Some outer)
 
 abbrev pub what_of : What → plain.What
-what_of (Do a) = plain.bare (S.Do (formula_of a) (env_of a))
-what_of (Later a) = plain.bare (S.Later (formula_of a) (env_of a))
-what_of (Shown values) = plain.bare (S.Shown (values_of values))
-what_of (Split left after) = plain.holds (S.Split (formula_of after) (env_of after)) left None
-what_of (SplitProject left outer piece) =
-    plain.holds (S.SplitProject (formula_of piece) (env_of piece)) left (Some outer)
-what_of (Closed closed) = plain.holds S.Closed closed None
-what_of (Opened outer piece) = plain.holds (S.Opened (formula_of piece) (env_of piece)) outer None
-what_of (Running inner outer piece) =
-    plain.holds (S.Running (formula_of piece) (env_of piece)) inner (Some outer)
-what_of (Gone first count) = plain.gone (range_with_len first count)
+what_of (what.Leaf l) = plain.bare (plain_leaf l)
+what_of (what.Holder h) = plain_holder h
+what_of (what.Gone first count) = plain.gone (range_with_len first count)
 
 abbrev pub slot_of : Slot → plain.Slot
 slot_of x = record { home = x.home; what = what_of x.what }

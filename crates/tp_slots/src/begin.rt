@@ -10,7 +10,7 @@ use crate::looks::no_looks;
 use crate::put::new_region;
 use crate::scene::{Scene, Slot, What};
 use std::alloc::Global;
-use tp_decide::Phrase;
+use tp_decide::{Leaf, Phrase};
 use tp_value::NoMemory;
 
 /// A scene with one item, whose formula is to hold from this state on.
@@ -23,7 +23,7 @@ pub fn start(alloc: Global, phrase: Phrase) -> Result<Scene, NoMemory>
     slots.push(Slot {
         home: 0,
         after: None,
-        what: What::Do(phrase),
+        what: What::Leaf(Leaf::Do(phrase)),
     })?;
     let mut roots = Vec::new(alloc);
     roots.push(0)?;

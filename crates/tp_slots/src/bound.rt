@@ -3,7 +3,8 @@ ghost use Rattle.std.specs.Prelude.{◌≡◌, ◌<◌, ◌++◌, [], ◌∷◌,
 ghost use Rattle.tp_kernel.specs.Read.{bindings_of};
 ghost use Rattle.tp_scene.specs.Scene as S;
 ghost use Rattle.tp_scene.specs.Pick.{HasAdded};
-ghost use Rattle.tp_decide.specs.ReadPhrase.{env_of, formula_of};
+ghost use Rattle.tp_decide.specs.declared.decision.Leaf.TheVariants as leaf;
+ghost use Rattle.tp_decide.specs.Read.{env_of, formula_of};
 ghost use Rattle.tp_slots.specs.Bound.{IsDueUnder, IsTakenOut, bound_last, slot_in, slot_with};
 ghost use Rattle.tp_slots.specs.Kept.{HasRoomFor, IsReducedTo, IsUnchanged, IsWellKept, Lives};
 ghost use Rattle.tp_slots.specs.News.{new_items};
@@ -17,7 +18,7 @@ use crate::scene::{Scene, Slot, What};
 use std::alloc::Global;
 use std::mem;
 use std::rc::Rc;
-use tp_decide::{Phrase, bind_last};
+use tp_decide::{Leaf, Phrase, bind_last};
 use tp_kernel::{Binding, Env};
 use tp_store::Store;
 use tp_value::{Indices, NoMemory, Path, Text, VarId};
@@ -35,7 +36,8 @@ fn take_due(scene: &mut Scene, item: u64, next: u64) -> Phrase
         first: next,
         count: 1,
     };
-    let What::Do(phrase) = mem::replace(&mut scene.slots[item as usize].what, gone) else {
+    let What::Leaf(Leaf::Do(phrase)) = mem::replace(&mut scene.slots[item as usize].what, gone)
+    else {
         unreachable!();
     };
     phrase
@@ -45,11 +47,11 @@ fn take_due(scene: &mut Scene, item: u64, next: u64) -> Phrase
 fn put_back(scene: &mut Scene, item: u64, phrase: Phrase)
     requires { item < length scene.old.slots.items }
     ensures slots { scene.new.slots.items ≡ slice_set scene.old.slots.items item
-        (slot_with (slot_in scene.old.slots.items item) (what.Do phrase)) }
+        (slot_with (slot_in scene.old.slots.items item) (what.Leaf (leaf.Do phrase))) }
     ensures regions { scene.new.regions ≡ scene.old.regions }
     ensures looks { scene.new.looks ≡ scene.old.looks }
 {
-    scene.slots[item as usize].what = What::Do(phrase);
+    scene.slots[item as usize].what = What::Leaf(Leaf::Do(phrase));
 }
 
 // An item more, which stands and is visited where the other one was. There is room for it.
@@ -57,7 +59,7 @@ fn push_due(scene: &mut Scene, item: u64, phrase: Phrase)
     requires item { item < length scene.old.slots.items }
     requires room { HasRoomFor 1 scene.old }
     ensures slots { scene.new.slots.items ≡ scene.old.slots.items
-        ++ slot_with (slot_in scene.old.slots.items item) (what.Do phrase) ∷ [] }
+        ++ slot_with (slot_in scene.old.slots.items item) (what.Leaf (leaf.Do phrase)) ∷ [] }
     ensures regions { scene.new.regions ≡ scene.old.regions }
     ensures looks { scene.new.looks ≡ scene.old.looks }
 {
@@ -66,7 +68,7 @@ fn push_due(scene: &mut Scene, item: u64, phrase: Phrase)
     let slot = Slot {
         home,
         after,
-        what: What::Do(phrase),
+        what: What::Leaf(Leaf::Do(phrase)),
     };
     let Ok(()) = scene.slots.push(slot) else {
         unreachable!();

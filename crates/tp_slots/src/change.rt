@@ -5,16 +5,16 @@ ghost use Rattle.tp_scene.specs.Scene.{has};
 ghost use Rattle.tp_decide.specs.ReadPhrase.{env_of, formula_of};
 ghost use Rattle.tp_slots.specs.News.{moved_news, new_items};
 ghost use Rattle.tp_slots.specs.Reductions.{CanMove, HoldsOne, IsAfter, IsBare, IsReduced, becomes_holder, becomes_opened, becomes_split, moved_inner, moved_outs};
-ghost use Rattle.tp_slots.specs.Read.{scene_of, slots_of, what_of, whats_of, item_what};
+ghost use Rattle.tp_slots.specs.Read.{plain_holder, scene_of, slots_of, what_of, whats_of, item_what};
 ghost use Rattle.tp_slots.specs.Kept.{IsWellKept, IsUnchanged, Lives, IsReducedTo};
 
 use crate::leaves::numbers;
 use crate::put::put;
-use crate::scene::{Scene, What};
+use crate::scene::{Holder, Scene, What};
 use crate::walk::items_inside;
 use std::alloc::Global;
 use std::rc::Rc;
-use tp_decide::Phrase;
+use tp_decide::{Leaf, Phrase};
 use tp_kernel::Formula;
 use tp_value::NoMemory;
 
@@ -34,23 +34,23 @@ fn become_holder(
     scene: &mut Scene,
     item: u64,
     first: Phrase,
-    holder: What,
+    holder: Holder,
 ) -> Result<Vec<u64>, NoMemory>
     requires kept { IsWellKept scene.old }
     requires lives { Lives scene.old item }
     requires free { IsBare (item_what scene.old item) }
-    requires one { HoldsOne (length scene.old.regions.items) (what_of holder) }
+    requires one { HoldsOne (length scene.old.regions.items) (plain_holder holder) }
     ensures kept { IsWellKept scene.new }
     ensures scene { let reduction =
-        becomes_holder (scene_of scene.old) (formula_of first) (env_of first) (what_of holder)
+        becomes_holder (scene_of scene.old) (formula_of first) (env_of first) (plain_holder holder)
         in OnOk result (IsReducedTo item reduction scene.old scene.new) }
     ensures news { IfOk result (λ v.
         v.items ≡ new_items (scene_of scene.old) (scene_of scene.new)) }
     ensures err { OnErr result (IsUnchanged scene.old scene.new) }
 {
     let fresh = numbers(alloc, scene.slots.len() as u64, 2)?;
-    let inner = one(alloc, What::Do(first))?;
-    let outs = one(alloc, holder)?;
+    let inner = one(alloc, What::Leaf(Leaf::Do(first)))?;
+    let outs = one(alloc, What::Holder(holder))?;
     put(alloc, scene, item, None, inner, outs)?;
     Ok(fresh)
 }
@@ -77,7 +77,7 @@ pub fn become_split(
     ensures err { OnErr result (IsUnchanged scene.old scene.new) }
 {
     let left = scene.regions.len() as u64;
-    let fresh = become_holder(alloc, scene, item, first, What::Split { left, after })?;
+    let fresh = become_holder(alloc, scene, item, first, Holder::Split { left, after })?;
     Ok(fresh)
 }
 
@@ -103,7 +103,7 @@ pub fn become_opened(
     ensures err { OnErr result (IsUnchanged scene.old scene.new) }
 {
     let outer = scene.regions.len() as u64;
-    let fresh = become_holder(alloc, scene, item, first, What::Opened { outer, piece })?;
+    let fresh = become_holder(alloc, scene, item, first, Holder::Opened { outer, piece })?;
     Ok(fresh)
 }
 
@@ -142,17 +142,15 @@ fn begun_items(alloc: Global, what: &What) -> Result<Vec<What>, NoMemory>
     ensures { IfOk result (λ v. whats_of v.items ≡ moved_inner (what_of what.now)) }
 {
     match what {
-        What::Opened { piece, .. } => {
-            let first = share(piece)?;
-            let more = more_under(alloc, piece)?;
-            let list = two(alloc, What::Do(first), What::Do(more))?;
+        What::Holder(Holder::Opened { piece, .. }) => {
+            let first = What::Leaf(Leaf::Do(share(piece)?));
+            let more = What::Leaf(Leaf::Do(more_under(alloc, piece)?));
+            let list = two(alloc, first, more)?;
             Ok(list)
         }
-        What::Do(_) | What::Later(_) | What::Shown(_) | What::Closed(_) => Ok(Vec::new(alloc)),
-        What::Gone { .. } => Ok(Vec::new(alloc)),
-        What::Split { .. } => Ok(Vec::new(alloc)),
-        What::SplitProject { .. } => Ok(Vec::new(alloc)),
-        What::Running { .. } => Ok(Vec::new(alloc)),
+        What::Holder(Holder::Split { .. } | Holder::SplitProject { .. }) => Ok(Vec::new(alloc)),
+        What::Holder(Holder::Closed(_) | Holder::Running { .. }) => Ok(Vec::new(alloc)),
+        What::Leaf(_) | What::Gone { .. } => Ok(Vec::new(alloc)),
     }
 }
 
@@ -161,33 +159,32 @@ fn next_items(alloc: Global, what: &What, region: u64) -> Result<Vec<What>, NoMe
     ensures { IfOk result (λ v. whats_of v.items ≡ moved_outs (what_of what.now) region) }
 {
     match what {
-        What::Split { left, after } => {
-            let after = share(after)?;
-            let list = two(alloc, What::Closed(*left), What::Do(after))?;
+        What::Holder(Holder::Split { left, after }) => {
+            let closed = What::Holder(Holder::Closed(*left));
+            let after = What::Leaf(Leaf::Do(share(after)?));
+            let list = two(alloc, closed, after)?;
             Ok(list)
         }
-        What::SplitProject { left, outer, piece } => {
-            let piece = share(piece)?;
-            let opened = What::Opened {
+        What::Holder(Holder::SplitProject { left, outer, piece }) => {
+            let closed = What::Holder(Holder::Closed(*left));
+            let opened = What::Holder(Holder::Opened {
                 outer: *outer,
-                piece,
-            };
-            let list = two(alloc, What::Closed(*left), opened)?;
+                piece: share(piece)?,
+            });
+            let list = two(alloc, closed, opened)?;
             Ok(list)
         }
-        What::Opened { outer, piece } => {
-            let piece = share(piece)?;
-            let running = What::Running {
+        What::Holder(Holder::Opened { outer, piece }) => {
+            let running = What::Holder(Holder::Running {
                 inner: region,
                 outer: *outer,
-                piece,
-            };
+                piece: share(piece)?,
+            });
             let list = one(alloc, running)?;
             Ok(list)
         }
-        What::Do(_) | What::Later(_) | What::Shown(_) | What::Closed(_) => Ok(Vec::new(alloc)),
-        What::Gone { .. } => Ok(Vec::new(alloc)),
-        What::Running { .. } => Ok(Vec::new(alloc)),
+        What::Holder(Holder::Closed(_) | Holder::Running { .. }) => Ok(Vec::new(alloc)),
+        What::Leaf(_) | What::Gone { .. } => Ok(Vec::new(alloc)),
     }
 }
 
@@ -200,24 +197,25 @@ fn moved_items(alloc: Global, scene: &Scene, item: u64) -> Result<Vec<u64>, NoMe
 {
     let first = scene.slots.len() as u64;
     match &scene.slots[item as usize].what {
-        What::Split { .. } => {
-            let fresh = numbers(alloc, first, 2)?;
-            Ok(fresh)
-        }
-        What::SplitProject { outer, .. } => {
-            let mut fresh = numbers(alloc, first, 1)?;
-            let mut woken = items_inside(alloc, scene, *outer)?;
-            fresh.append(&mut woken)?;
-            fresh.push(first + 1)?;
-            Ok(fresh)
-        }
-        What::Opened { .. } => {
-            let fresh = numbers(alloc, first, 3)?;
-            Ok(fresh)
-        }
-        What::Do(_) | What::Later(_) | What::Shown(_) | What::Closed(_) => Ok(Vec::new(alloc)),
-        What::Gone { .. } => Ok(Vec::new(alloc)),
-        What::Running { .. } => Ok(Vec::new(alloc)),
+        What::Holder(holder) => match holder {
+            Holder::Split { .. } => {
+                let fresh = numbers(alloc, first, 2)?;
+                Ok(fresh)
+            }
+            Holder::SplitProject { outer, .. } => {
+                let mut fresh = numbers(alloc, first, 1)?;
+                let mut woken = items_inside(alloc, scene, *outer)?;
+                fresh.append(&mut woken)?;
+                fresh.push(first + 1)?;
+                Ok(fresh)
+            }
+            Holder::Opened { .. } => {
+                let fresh = numbers(alloc, first, 3)?;
+                Ok(fresh)
+            }
+            Holder::Closed(_) | Holder::Running { .. } => Ok(Vec::new(alloc)),
+        },
+        What::Leaf(_) | What::Gone { .. } => Ok(Vec::new(alloc)),
     }
 }
 

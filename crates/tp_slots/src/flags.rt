@@ -8,7 +8,7 @@ ghost use Rattle.tp_slots.specs.Lives.{leads_to};
 ghost use Rattle.tp_slots.specs.Flags.{AgreeBelow, FlagsAreRight, Pending, forced_in, rises_from, sinks_in};
 
 use crate::looks::{depth_found, is_found_not_so};
-use crate::scene::{Region, Scene, What};
+use crate::scene::{Holder, Region, Scene, What};
 use tp_decide::Side;
 
 // The region is so by a mark or from within.
@@ -27,12 +27,14 @@ fn rises(what: &What, region: u64, side: Side) -> bool
 {
     let going = matches!(side, Side::Going);
     match what {
-        What::Do(_) | What::Later(_) | What::Shown(_) | What::Closed(_) => false,
-        What::Gone { .. } => false,
-        What::Split { left, .. } => *left == region && going,
-        What::SplitProject { left, .. } => *left == region && going,
-        What::Opened { outer, .. } => *outer == region,
-        What::Running { inner, outer, .. } => (*inner == region && going) || *outer == region,
+        What::Leaf(_) | What::Gone { .. } => false,
+        What::Holder(holder) => match holder {
+            Holder::Split { left, .. } => *left == region && going,
+            Holder::SplitProject { left, .. } => *left == region && going,
+            Holder::Closed(_) => false,
+            Holder::Opened { outer, .. } => *outer == region,
+            Holder::Running { inner, outer, .. } => (*inner == region && going) || *outer == region,
+        },
     }
 }
 
@@ -41,13 +43,10 @@ fn forces(what: &What, region: u64, side: Side) -> bool
     ensures { result ≡ forced_in (what_of what.now) region (mark_of side) }
 {
     match what {
-        What::Closed(closed) => *closed == region && matches!(side, Side::Ending),
-        What::Do(_) | What::Later(_) | What::Shown(_) => false,
-        What::Gone { .. } => false,
-        What::Split { .. } => false,
-        What::SplitProject { .. } => false,
-        What::Opened { .. } => false,
-        What::Running { .. } => false,
+        What::Holder(Holder::Closed(closed)) => *closed == region && matches!(side, Side::Ending),
+        What::Holder(Holder::Split { .. } | Holder::SplitProject { .. }) => false,
+        What::Holder(Holder::Opened { .. } | Holder::Running { .. }) => false,
+        What::Leaf(_) | What::Gone { .. } => false,
     }
 }
 
@@ -57,13 +56,14 @@ pub(crate) fn sinks(what: &What, region: u64, side: Side) -> bool
 {
     let ending = matches!(side, Side::Ending);
     match what {
-        What::Do(_) | What::Later(_) | What::Shown(_) => true,
-        What::Gone { .. } => true,
-        What::Split { left, .. } => *left != region || ending,
-        What::SplitProject { left, .. } => *left != region || ending,
-        What::Closed(closed) => *closed != region,
-        What::Opened { .. } => true,
-        What::Running { inner, .. } => *inner != region || ending,
+        What::Leaf(_) | What::Gone { .. } => true,
+        What::Holder(holder) => match holder {
+            Holder::Split { left, .. } => *left != region || ending,
+            Holder::SplitProject { left, .. } => *left != region || ending,
+            Holder::Closed(closed) => *closed != region,
+            Holder::Opened { .. } => true,
+            Holder::Running { inner, .. } => *inner != region || ending,
+        },
     }
 }
 
@@ -72,13 +72,14 @@ fn leads(what: &What, region: u64) -> bool
     ensures { result ≡ leads_to (what_of what.now) region }
 {
     match what {
-        What::Do(_) | What::Later(_) | What::Shown(_) => false,
-        What::Gone { .. } => false,
-        What::Split { left, .. } => *left == region,
-        What::SplitProject { left, .. } => *left == region,
-        What::Closed(closed) => *closed == region,
-        What::Opened { outer, .. } => *outer == region,
-        What::Running { inner, outer, .. } => *inner == region || *outer == region,
+        What::Leaf(_) | What::Gone { .. } => false,
+        What::Holder(holder) => match holder {
+            Holder::Split { left, .. } => *left == region,
+            Holder::SplitProject { left, .. } => *left == region,
+            Holder::Closed(closed) => *closed == region,
+            Holder::Opened { outer, .. } => *outer == region,
+            Holder::Running { inner, outer, .. } => *inner == region || *outer == region,
+        },
     }
 }
 

@@ -2,13 +2,12 @@
 ghost use Rattle.std.specs.Prelude.{◌≡◌, ◌<◌, ◌≤◌, ◌+◌, ◌-◌, ◌++◌, ◌∷◌, ◌^◌, [], length, IfOk, None, OnOk, OnErr, true, vec_len, vec_capacity};
 ghost use Rattle.std.specs.Option.{option_map};
 ghost use Rattle.std.specs.List.{range_with_len};
-ghost use Rattle.tp_decide.specs.Decided.{mark_of, plain_leaf};
+ghost use Rattle.tp_decide.specs.Decided.{mark_of};
 ghost use Rattle.tp_scene.specs.Scene as S;
 ghost use Rattle.tp_slots.specs.Flags.{FlagsFollow};
 ghost use Rattle.tp_slots.specs.Kept.{HasRoomFor, IsUnchanged, IsShaped, IsQuiet, IsWellKept, Lives, region_lives, IsReducedTo, flags_on};
 ghost use Rattle.tp_slots.specs.Looks.{LooksFollow};
 ghost use Rattle.tp_slots.specs.News.{bare_leaves, new_items};
-ghost use Rattle.tp_slots.specs.Plain as plain;
 ghost use Rattle.tp_slots.specs.Read.{afters_of, all_slots, ends_of, goes_of, holders_of, item_home, item_what, region_ends, region_goes, region_holders, region_slots, scene_of, slot_afters, slots_of, what_of};
 ghost use Rattle.tp_slots.specs.Reductions.{IsBare, becomes_leaves};
 ghost use Rattle.tp_slots.specs.Replace.{gone_at, home_in, marked_at};
@@ -131,17 +130,6 @@ fn raise_mark(scene: &mut Scene, region: u64, mark: Option<Side>)
     }
 }
 
-/// A leaf, as it stands in a slot.
-pub fn leaf_what(leaf: Leaf) -> What
-    ensures { what_of result ≡ plain.bare (plain_leaf leaf) }
-{
-    match leaf {
-        Leaf::Do(phrase) => What::Do(phrase),
-        Leaf::Later(phrase) => What::Later(phrase),
-        Leaf::Shown(values) => What::Shown(values),
-    }
-}
-
 // Appends slots of one region for leaves, for which there is room. The first one has this number; each is visited after the one before it,
 // and `end` after the last.
 fn push_leaves(list: &mut Vec<Slot>, home: u64, first: u64, end: Option<u64>, leaves: Vec<Leaf>)
@@ -155,7 +143,7 @@ fn push_leaves(list: &mut Vec<Slot>, home: u64, first: u64, end: Option<u64>, le
     let mut left = leaves.len() as u64;
     let last = first + left;
     for leaf in leaves {
-        let Ok(()) = push_link(list, home, left, last, end, leaf_what(leaf)) else {
+        let Ok(()) = push_link(list, home, left, last, end, What::Leaf(leaf)) else {
             unreachable!();
         };
         left -= 1;

@@ -7,14 +7,14 @@ ghost use Rattle.tp_scene.specs.Pick.{Setting, numbers_of, outcome_of};
 ghost use Rattle.tp_decide.specs.Decided.{mark_of, plain_place};
 ghost use Rattle.tp_slots.specs.Edit.{stands_in};
 ghost use Rattle.tp_slots.specs.Picked.{IsHolding, first_held, held_step, what_step};
-ghost use Rattle.tp_slots.specs.Read.{scene_of, slots_of, what_of, item_what, item_home, slot_of};
+ghost use Rattle.tp_slots.specs.Read.{scene_of, slots_of, what_of, plain_holder, item_what, item_home, slot_of};
 ghost use Rattle.tp_slots.specs.Kept.{IsWellKept, Lives, region_place_of, region_lives, PlaceFits, outcome_in, numbers_in, IsUnchanged};
 ghost use Rattle.tp_slots.specs.Lives.{is_item};
 ghost use Rattle.tp_slots.specs.Looks.{looked_at};
 
 use crate::flags::{lives, sees, sinks};
 use crate::looks::{depth_found, is_found_not_so, keep_depth, keep_not_so};
-use crate::scene::{Scene, Slot, What};
+use crate::scene::{Holder, Scene, Slot, What};
 use tp_decide::{Place, Side};
 
 // Whether an item stands there.
@@ -22,11 +22,7 @@ fn is_kept(what: &What) -> bool
     ensures { result ≡ is_item (what_of what.now) }
 {
     match what {
-        What::Do(_) | What::Later(_) | What::Shown(_) | What::Closed(_) => true,
-        What::Split { .. } => true,
-        What::SplitProject { .. } => true,
-        What::Opened { .. } => true,
-        What::Running { .. } => true,
+        What::Leaf(_) | What::Holder(_) => true,
         What::Gone { .. } => false,
     }
 }
@@ -100,18 +96,25 @@ pub fn place_of_item(scene: &Scene, item: u64) -> Place
 }
 
 // The region that an item holds, which isn't the outer one of a projection whose piece is at hand.
-fn held(what: &What) -> u64
-    requires { IsHolding (what_of what.now) }
-    ensures { result ≡ first_held (what_of what.now) }
+fn held(holder: &Holder) -> u64
+    ensures { result ≡ first_held (plain_holder holder.now) }
 {
-    match what {
-        What::Split { left, .. } => *left,
-        What::SplitProject { left, .. } => *left,
-        What::Closed(closed) => *closed,
-        What::Opened { outer, .. } => *outer,
-        What::Running { inner, .. } => *inner,
-        What::Do(_) | What::Later(_) | What::Shown(_) => unreachable!(),
-        What::Gone { .. } => unreachable!(),
+    match holder {
+        Holder::Split { left, .. } => *left,
+        Holder::SplitProject { left, .. } => *left,
+        Holder::Closed(closed) => *closed,
+        Holder::Opened { outer, .. } => *outer,
+        Holder::Running { inner, .. } => *inner,
+    }
+}
+
+// The region at which a try of an item looks: the first one that it holds, or else that in which it stands.
+fn region_tried(slot: &Slot) -> u64
+    ensures { result ≡ looked_at (slot_of slot.now) }
+{
+    match &slot.what {
+        What::Leaf(_) | What::Gone { .. } => slot.home,
+        What::Holder(holder) => held(holder),
     }
 }
 
@@ -125,23 +128,8 @@ pub fn place_inside(scene: &Scene, item: u64) -> Place
         ≡ held_step w k.facts (slots_of scene.now) (item_what scene.now item)
         (plain_place result) (numbers_in k scene.now) }
 {
-    let slot = &scene.slots[item as usize];
-    place(scene, held(&slot.what))
-}
-
-// The region that a try of an item looks at: the first one that it holds, or else that in which it stands.
-fn region_tried(slot: &Slot) -> u64
-    ensures { result ≡ looked_at (slot_of slot.now) }
-{
-    match &slot.what {
-        What::Do(_) | What::Later(_) | What::Shown(_) => slot.home,
-        What::Gone { .. } => slot.home,
-        What::Split { left, .. } => *left,
-        What::SplitProject { left, .. } => *left,
-        What::Closed(closed) => *closed,
-        What::Opened { outer, .. } => *outer,
-        What::Running { inner, .. } => *inner,
-    }
+    let region = region_tried(&scene.slots[item as usize]);
+    place(scene, region)
 }
 
 // Keeps how deep a live region is, and those outward, up to the first of which that is known.

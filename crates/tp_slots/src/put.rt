@@ -12,7 +12,7 @@ ghost use Rattle.tp_slots.specs.Row.{AreBelow, AllBelow, begun, hold, hold_all, 
 ghost use Rattle.tp_slots.specs.Threads.{afters_then, links, nothing_after};
 
 use crate::leaves::{go, numbers, push_link, set_mark};
-use crate::scene::{Region, Scene, Slot, What};
+use crate::scene::{Holder, Region, Scene, Slot, What};
 use std::alloc::Global;
 use tp_decide::Side;
 use tp_value::NoMemory;
@@ -139,19 +139,20 @@ fn hold_what(list: &mut [Region], item: u64, what: &What)
     ensures goes { region_goes list.new ≡ region_goes list.old }
 {
     match what {
-        What::Do(_) | What::Later(_) | What::Shown(_) => {}
-        What::Gone { .. } => {}
-        What::Split { left, .. } => hold_region(list, *left, item),
-        What::SplitProject { left, outer, .. } => {
-            hold_region(list, *left, item);
-            hold_region(list, *outer, item);
-        }
-        What::Closed(closed) => hold_region(list, *closed, item),
-        What::Opened { outer, .. } => hold_region(list, *outer, item),
-        What::Running { inner, outer, .. } => {
-            hold_region(list, *inner, item);
-            hold_region(list, *outer, item);
-        }
+        What::Leaf(_) | What::Gone { .. } => {}
+        What::Holder(holder) => match holder {
+            Holder::Split { left, .. } => hold_region(list, *left, item),
+            Holder::SplitProject { left, outer, .. } => {
+                hold_region(list, *left, item);
+                hold_region(list, *outer, item);
+            }
+            Holder::Closed(closed) => hold_region(list, *closed, item),
+            Holder::Opened { outer, .. } => hold_region(list, *outer, item),
+            Holder::Running { inner, outer, .. } => {
+                hold_region(list, *inner, item);
+                hold_region(list, *outer, item);
+            }
+        },
     }
 }
 

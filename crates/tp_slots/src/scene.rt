@@ -1,6 +1,6 @@
 // Scenes as slots by item number.
 use crate::looks::Looks;
-use tp_decide::{Phrase, Values};
+use tp_decide::{Leaf, Phrase};
 
 /// What a run has between the steps of a state: the items by number, the regions by number, and what was found of these. The root is region
 /// 0.
@@ -40,13 +40,9 @@ pub enum Mark {
     Goes,
 }
 
-/// What stands in a slot: an item, whose regions are named by number, or the items that stand in its place, which have the numbers from
-/// the first one on.
+/// An item that holds a region, or two, which are named by number.
 #[derive(Drop)]
-pub enum What {
-    Do(Phrase),
-    Later(Phrase),
-    Shown(Values),
+pub enum Holder {
     Split {
         left: u64,
         after: Phrase,
@@ -66,8 +62,13 @@ pub enum What {
         outer: u64,
         piece: Phrase,
     },
-    Gone {
-        first: u64,
-        count: u64,
-    },
+}
+
+/// What stands in a slot: an item without a region, one that holds a region, or the items that stand in its place, which have the numbers
+/// from the first one on.
+#[derive(Drop)]
+pub enum What {
+    Leaf(Leaf),
+    Holder(Holder),
+    Gone { first: u64, count: u64 },
 }

@@ -10,8 +10,8 @@ ghost use Rattle.tp_slots.specs.Threads.{after_at};
 ghost use Rattle.tp_slots.specs.Walk.{live_inside, live_of};
 
 use crate::flags::sees;
-use crate::scene::{Scene, What};
-use tp_decide::Side;
+use crate::scene::{Holder, Scene, What};
+use tp_decide::{Leaf, Side};
 
 // Whether what stands in a slot isn't done with this state.
 fn waits(scene: &Scene, what: &What) -> bool
@@ -20,13 +20,15 @@ fn waits(scene: &Scene, what: &What) -> bool
     ensures { result ≡ what_waits (slots_of scene.now) (holders_of scene.now) (what_of what.now) }
 {
     match what {
-        What::Do(_) => true,
-        What::Later(_) | What::Shown(_) | What::Closed(_) => false,
+        What::Leaf(Leaf::Do(_)) => true,
+        What::Leaf(Leaf::Later(_) | Leaf::Shown(_)) => false,
+        What::Holder(holder) => match holder {
+            Holder::Split { left, .. } => !sees(scene, *left, Side::Going),
+            Holder::SplitProject { left, .. } => !sees(scene, *left, Side::Going),
+            Holder::Opened { outer, .. } => !sees(scene, *outer, Side::Ending),
+            Holder::Closed(_) | Holder::Running { .. } => false,
+        },
         What::Gone { .. } => false,
-        What::Running { .. } => false,
-        What::Split { left, .. } => !sees(scene, *left, Side::Going),
-        What::SplitProject { left, .. } => !sees(scene, *left, Side::Going),
-        What::Opened { outer, .. } => !sees(scene, *outer, Side::Ending),
     }
 }
 
@@ -53,33 +55,33 @@ fn first_held(scene: &Scene, item: u64, what: &What) -> Option<u64>
     ensures { result ≡ first_waiting scene.now (standing scene.now item (what_of what.now)) }
 {
     match what {
-        What::Do(_) => or_itself(scene, item, what, None),
-        What::Later(_) => or_itself(scene, item, what, None),
-        What::Shown(_) => or_itself(scene, item, what, None),
-        What::Gone { .. } => None,
-        What::Split { left, .. } => {
-            let inside = first_inside(scene, *left);
-            or_itself(scene, item, what, inside)
-        }
-        What::SplitProject { left, .. } => {
-            let inside = first_inside(scene, *left);
-            or_itself(scene, item, what, inside)
-        }
-        What::Closed(closed) => {
-            let inside = first_inside(scene, *closed);
-            or_itself(scene, item, what, inside)
-        }
-        What::Opened { outer, .. } => {
-            let inside = first_inside(scene, *outer);
-            or_itself(scene, item, what, inside)
-        }
-        What::Running { inner, outer, .. } => {
-            if let Some(found) = first_inside(scene, *outer) {
-                return Some(found);
+        What::Leaf(_) => or_itself(scene, item, what, None),
+        What::Holder(holder) => match holder {
+            Holder::Split { left, .. } => {
+                let inside = first_inside(scene, *left);
+                or_itself(scene, item, what, inside)
             }
-            let inside = first_inside(scene, *inner);
-            or_itself(scene, item, what, inside)
-        }
+            Holder::SplitProject { left, .. } => {
+                let inside = first_inside(scene, *left);
+                or_itself(scene, item, what, inside)
+            }
+            Holder::Closed(closed) => {
+                let inside = first_inside(scene, *closed);
+                or_itself(scene, item, what, inside)
+            }
+            Holder::Opened { outer, .. } => {
+                let inside = first_inside(scene, *outer);
+                or_itself(scene, item, what, inside)
+            }
+            Holder::Running { inner, outer, .. } => {
+                if let Some(found) = first_inside(scene, *outer) {
+                    return Some(found);
+                }
+                let inside = first_inside(scene, *inner);
+                or_itself(scene, item, what, inside)
+            }
+        },
+        What::Gone { .. } => None,
     }
 }
 
@@ -89,11 +91,7 @@ fn first_by(what: &What) -> Option<u64>
 {
     match what {
         What::Gone { first, count } => { if *count > 0 { Some(*first) } else { None } }
-        What::Do(_) | What::Later(_) | What::Shown(_) | What::Closed(_) => None,
-        What::Split { .. } => None,
-        What::SplitProject { .. } => None,
-        What::Opened { .. } => None,
-        What::Running { .. } => None,
+        What::Leaf(_) | What::Holder(_) => None,
     }
 }
 

@@ -10,7 +10,7 @@ ghost use Rattle.tp_slots.specs.Kept.{IsWellKept};
 use crate::scene::{Scene, Slot, What};
 use crate::walk::items;
 use std::alloc::Global;
-use tp_decide::{Shows, Values};
+use tp_decide::{Leaf, Shows, Values};
 use tp_value::NoMemory;
 
 // Equal values.
@@ -30,17 +30,13 @@ fn add_shown(alloc: Global, what: &What, all: &mut Vec<Values>) -> Result<(), No
         ≡ map values_of all.old.items ++ what_shows (what_of what.now)) }
 {
     match what {
-        What::Shown(values) => {
+        What::Leaf(Leaf::Shown(values)) => {
             let copy = copy_values(alloc, values)?;
             all.push(copy)?;
             Ok(())
         }
-        What::Do(_) | What::Later(_) | What::Closed(_) => Ok(()),
-        What::Gone { .. } => Ok(()),
-        What::Split { .. } => Ok(()),
-        What::SplitProject { .. } => Ok(()),
-        What::Opened { .. } => Ok(()),
-        What::Running { .. } => Ok(()),
+        What::Leaf(Leaf::Do(_) | Leaf::Later(_)) => Ok(()),
+        What::Holder(_) | What::Gone { .. } => Ok(()),
     }
 }
 
@@ -67,13 +63,9 @@ fn is_shown(what: &What) -> bool
     ensures { result ≡ false → what_shows (what_of what.now) ≡ [] }
 {
     match what {
-        What::Shown(_) => true,
-        What::Do(_) | What::Later(_) | What::Closed(_) => false,
-        What::Gone { .. } => false,
-        What::Split { .. } => false,
-        What::SplitProject { .. } => false,
-        What::Opened { .. } => false,
-        What::Running { .. } => false,
+        What::Leaf(Leaf::Shown(_)) => true,
+        What::Leaf(Leaf::Do(_) | Leaf::Later(_)) => false,
+        What::Holder(_) | What::Gone { .. } => false,
     }
 }
 

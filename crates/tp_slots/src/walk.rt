@@ -8,7 +8,7 @@ ghost use Rattle.tp_slots.specs.Cost.{cost_of, cost_at, task_cost, left_cost};
 ghost use Rattle.tp_slots.specs.Walk.{live_of, told_by, visits, IsTask, AreTasks, left_todo, live_inside};
 ghost use Rattle.tp_slots.specs.Plain.{IsOrdered};
 
-use crate::scene::{Scene, What};
+use crate::scene::{Holder, Scene, What};
 use std::alloc::Global;
 use tp_value::NoMemory;
 
@@ -110,30 +110,19 @@ fn visit_what(
     ensures tasks { OnOk result (AreTasks (slots_of scene.now) stack.new.items) }
 {
     match what {
-        What::Do(_) | What::Later(_) | What::Shown(_) => {
+        What::Leaf(_) => {
             out.push(item)?;
             Ok(())
         }
-        What::Split { left, .. } => {
-            enter(scene, stack, item, *left)?;
-            Ok(())
-        }
-        What::SplitProject { left, .. } => {
-            enter(scene, stack, item, *left)?;
-            Ok(())
-        }
-        What::Closed(closed) => {
-            enter(scene, stack, item, *closed)?;
-            Ok(())
-        }
-        What::Opened { outer, .. } => {
-            enter(scene, stack, item, *outer)?;
-            Ok(())
-        }
-        What::Running { inner, outer, .. } => {
-            enter_both(scene, stack, item, *inner, *outer)?;
-            Ok(())
-        }
+        What::Holder(holder) => match holder {
+            Holder::Split { left, .. } => enter(scene, stack, item, *left),
+            Holder::SplitProject { left, .. } => enter(scene, stack, item, *left),
+            Holder::Closed(closed) => enter(scene, stack, item, *closed),
+            Holder::Opened { outer, .. } => enter(scene, stack, item, *outer),
+            Holder::Running { inner, outer, .. } => {
+                enter_both(scene, stack, item, *inner, *outer)
+            }
+        },
         What::Gone { first, count } => {
             push_range(stack, *first, *count)?;
             Ok(())

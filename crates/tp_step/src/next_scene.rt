@@ -1,16 +1,17 @@
 // The scene of the next state.
 ghost use Rattle.std.specs.Prelude.{◌≡◌, ◌<◌, ◌++◌, ◌∷◌, [], None, Some, length, map, slice_set, IfOk, OnOk};
 ghost use Rattle.tp_scene.specs.Advance.{advanced};
+ghost use Rattle.tp_decide.specs.Decided.{plain_leaf};
 ghost use Rattle.tp_slots.specs.Plain as plain;
 ghost use Rattle.tp_slots.specs.Plain.{IsOrdered};
 ghost use Rattle.tp_slots.specs.Kept.{IsWellKept};
-ghost use Rattle.tp_slots.specs.Read.{all_slots, scene_of, slots_of, what_of};
+ghost use Rattle.tp_slots.specs.Read.{all_slots, plain_holder, scene_of, slots_of, what_of};
 ghost use Rattle.tp_step.specs.Successors.{AreUnlinked, IsExtended, HasRegion, full_regions, inside_ids, item_left, next_ids, number_list, one_held, one_holder_of, refilled, region_left, successor_in, successor_of, two_held, two_holder_of, unmarked_region};
 
 use crate::own::own_items;
 use std::alloc::Global;
 use tp_decide::{Leaf, Phrase};
-use tp_slots::{Region, Scene, Slot, What, copy_values, leaf_what, no_looks, share};
+use tp_slots::{Holder, Region, Scene, Slot, What, copy_values, no_looks, share};
 use tp_value::NoMemory;
 
 /// What the next state has of a region: all of it as it is, or what is due of it then.
@@ -72,43 +73,59 @@ fn holds_two(kind: TwoHolder, held: u64, second: u64, extent: Extent) -> Success
     }
 }
 
-// An item as it is, where its region is left whole.
-fn whole(alloc: Global, what: &What) -> Result<Successor, NoMemory>
-    ensures { IfOk result (λ x. successor_of x ≡ successor_in Extent.Whole (what_of what.now)) }
+// An equal item without a region.
+fn copy_leaf(alloc: Global, leaf: &Leaf) -> Result<Leaf, NoMemory>
+    ensures { IfOk result (λ l. plain_leaf l ≡ plain_leaf leaf.now) }
 {
-    match what {
-        What::Do(phrase) => {
-            let phrase = share(phrase)?;
-            Ok(Successor::Bare(Leaf::Do(phrase)))
-        }
-        What::Later(phrase) => {
-            let phrase = share(phrase)?;
-            Ok(Successor::Bare(Leaf::Later(phrase)))
-        }
-        What::Shown(values) => {
-            let values = copy_values(alloc, values)?;
-            Ok(Successor::Bare(Leaf::Shown(values)))
-        }
-        What::Split { left, after } => {
+    match leaf {
+        Leaf::Do(phrase) => Ok(Leaf::Do(share(phrase)?)),
+        Leaf::Later(phrase) => Ok(Leaf::Later(share(phrase)?)),
+        Leaf::Shown(values) => Ok(Leaf::Shown(copy_values(alloc, values)?)),
+    }
+}
+
+// An item that holds a region, as it is, where its region is left whole.
+fn whole_holder(holder: &Holder) -> Result<Successor, NoMemory>
+    ensures { IfOk result (λ x.
+        successor_of x ≡ successor_in Extent.Whole (plain_holder holder.now)) }
+{
+    match holder {
+        Holder::Split { left, after } => {
             let after = share(after)?;
             Ok(holds_one(OneHolder::Split(after), *left))
         }
-        What::SplitProject { left, outer, piece } => {
+        Holder::SplitProject { left, outer, piece } => {
             let piece = TwoHolder::SplitProject(share(piece)?);
             Ok(holds_two(piece, *left, *outer, Extent::Whole))
         }
-        What::Closed(closed) => Ok(holds_one(OneHolder::Closed, *closed)),
-        What::Opened { outer, piece } => {
+        Holder::Closed(closed) => Ok(holds_one(OneHolder::Closed, *closed)),
+        Holder::Opened { outer, piece } => {
             let piece = share(piece)?;
             Ok(holds_one(OneHolder::Opened(piece), *outer))
         }
-        What::Running {
+        Holder::Running {
             inner,
             outer,
             piece,
         } => {
             let piece = TwoHolder::Running(share(piece)?);
             Ok(holds_two(piece, *inner, *outer, Extent::Whole))
+        }
+    }
+}
+
+// An item as it is, where its region is left whole.
+fn whole(alloc: Global, what: &What) -> Result<Successor, NoMemory>
+    ensures { IfOk result (λ x. successor_of x ≡ successor_in Extent.Whole (what_of what.now)) }
+{
+    match what {
+        What::Leaf(leaf) => {
+            let leaf = copy_leaf(alloc, leaf)?;
+            Ok(Successor::Bare(leaf))
+        }
+        What::Holder(holder) => {
+            let next = whole_holder(holder)?;
+            Ok(next)
         }
         What::Gone { .. } => Ok(Successor::Nothing),
     }
@@ -119,28 +136,30 @@ fn due(what: &What) -> Result<Successor, NoMemory>
     ensures { IfOk result (λ x. successor_of x ≡ successor_in Extent.Due (what_of what.now)) }
 {
     match what {
-        What::Later(phrase) => {
+        What::Leaf(Leaf::Later(phrase)) => {
             let phrase = share(phrase)?;
             Ok(Successor::Bare(Leaf::Do(phrase)))
         }
-        What::Split { left, after } => {
+        What::Leaf(Leaf::Do(_) | Leaf::Shown(_)) => Ok(Successor::Nothing),
+        What::Holder(Holder::Split { left, after }) => {
             let after = share(after)?;
             Ok(holds_one(OneHolder::Split(after), *left))
         }
-        What::SplitProject { left, outer, piece } => {
+        What::Holder(Holder::SplitProject { left, outer, piece }) => {
             let piece = TwoHolder::SplitProject(share(piece)?);
             Ok(holds_two(piece, *left, *outer, Extent::Whole))
         }
-        What::Running {
-            inner,
-            outer,
-            piece,
-        } => {
+        What::Holder(
+            Holder::Running {
+                inner,
+                outer,
+                piece,
+            },
+        ) => {
             let piece = TwoHolder::SplitProject(share(piece)?);
             Ok(holds_two(piece, *inner, *outer, Extent::Due))
         }
-        What::Do(_) | What::Shown(_) | What::Closed(_) => Ok(Successor::Nothing),
-        What::Opened { .. } => Ok(Successor::Nothing),
+        What::Holder(Holder::Closed(_) | Holder::Opened { .. }) => Ok(Successor::Nothing),
         What::Gone { .. } => Ok(Successor::Nothing),
     }
 }
@@ -162,16 +181,16 @@ fn leave(alloc: Global, what: &What, extent: Extent) -> Result<Successor, NoMemo
 }
 
 // An item that holds the region.
-fn holding(kind: OneHolder, region: u64) -> What
-    ensures { what_of result ≡ plain.holds (one_holder_of kind) region None }
+fn holding(kind: OneHolder, region: u64) -> Holder
+    ensures { plain_holder result ≡ plain.holds (one_holder_of kind) region None }
 {
     match kind {
-        OneHolder::Split(after) => What::Split {
+        OneHolder::Split(after) => Holder::Split {
             left: region,
             after,
         },
-        OneHolder::Closed => What::Closed(region),
-        OneHolder::Opened(piece) => What::Opened {
+        OneHolder::Closed => Holder::Closed(region),
+        OneHolder::Opened(piece) => Holder::Opened {
             outer: region,
             piece,
         },
@@ -179,16 +198,16 @@ fn holding(kind: OneHolder, region: u64) -> What
 }
 
 // An item that holds the two regions.
-fn holding_both(kind: TwoHolder, region: u64, outer: u64) -> What
-    ensures { what_of result ≡ plain.holds (two_holder_of kind) region (Some outer) }
+fn holding_both(kind: TwoHolder, region: u64, outer: u64) -> Holder
+    ensures { plain_holder result ≡ plain.holds (two_holder_of kind) region (Some outer) }
 {
     match kind {
-        TwoHolder::SplitProject(piece) => What::SplitProject {
+        TwoHolder::SplitProject(piece) => Holder::SplitProject {
             left: region,
             outer,
             piece,
         },
-        TwoHolder::Running(piece) => What::Running {
+        TwoHolder::Running(piece) => Holder::Running {
             inner: region,
             outer,
             piece,
@@ -369,12 +388,12 @@ fn carry_item(
     match next {
         Successor::Nothing => Ok(None),
         Successor::Bare(leaf) => {
-            let id = push_item(new, home, leaf_what(leaf))?;
+            let id = push_item(new, home, What::Leaf(leaf))?;
             Ok(Some(id))
         }
         Successor::One { kind, held } => {
             let region = carry_held(alloc, old, held, extent, new)?;
-            let id = push_item(new, home, holding(kind, region))?;
+            let id = push_item(new, home, What::Holder(holding(kind, region)))?;
             Ok(Some(id))
         }
         Successor::Two {
@@ -385,7 +404,7 @@ fn carry_item(
         } => {
             let region = carry_held(alloc, old, held, extent, new)?;
             let outer = new.regions.len() as u64;
-            let id = push_item(new, home, holding_both(kind, region, outer))?;
+            let id = push_item(new, home, What::Holder(holding_both(kind, region, outer)))?;
             carry_second(alloc, old, second, rest, id, new)?;
             Ok(Some(id))
         }

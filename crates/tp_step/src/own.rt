@@ -63,23 +63,7 @@ fn list_what(
             push_numbers(stack, *first, *count)?;
             Ok(())
         }
-        What::Do(_) | What::Later(_) | What::Shown(_) | What::Closed(_) => {
-            out.push(item)?;
-            Ok(())
-        }
-        What::Split { .. } => {
-            out.push(item)?;
-            Ok(())
-        }
-        What::SplitProject { .. } => {
-            out.push(item)?;
-            Ok(())
-        }
-        What::Opened { .. } => {
-            out.push(item)?;
-            Ok(())
-        }
-        What::Running { .. } => {
+        What::Leaf(_) | What::Holder(_) => {
             out.push(item)?;
             Ok(())
         }

@@ -15,8 +15,10 @@ use crate::answer::Tried;
 use crate::carry::{carry_decision, carry_holder};
 use crate::steps::Steps;
 use std::sync::ledger::Ledger;
-use tp_decide::{Decision, HolderDecision, HolderKind, Phrase, Setting, decide, decide_holder};
-use tp_slots::{Scene, What, place_inside, place_of_item, remember};
+use tp_decide::{
+    Decision, HolderDecision, HolderKind, Leaf, Phrase, Setting, decide, decide_holder,
+};
+use tp_slots::{Holder, Scene, What, place_inside, place_of_item, remember};
 use tp_store::Store;
 use tp_value::NoMemory;
 
@@ -32,13 +34,14 @@ fn holder_kind(what: &What) -> Option<HolderKind>
     ensures { result ≡ kind_in (what_of what.now) }
 {
     match what {
-        What::Do(_) | What::Later(_) | What::Shown(_) => None,
-        What::Gone { .. } => None,
-        What::Split { .. } => Some(HolderKind::Split),
-        What::SplitProject { .. } => Some(HolderKind::SplitProject),
-        What::Closed(_) => Some(HolderKind::Closed),
-        What::Opened { .. } => Some(HolderKind::Opened),
-        What::Running { .. } => Some(HolderKind::Running),
+        What::Leaf(_) | What::Gone { .. } => None,
+        What::Holder(holder) => match holder {
+            Holder::Split { .. } => Some(HolderKind::Split),
+            Holder::SplitProject { .. } => Some(HolderKind::SplitProject),
+            Holder::Closed(_) => Some(HolderKind::Closed),
+            Holder::Opened { .. } => Some(HolderKind::Opened),
+            Holder::Running { .. } => Some(HolderKind::Running),
+        },
     }
 }
 
@@ -47,13 +50,9 @@ fn due(what: &What) -> Option<&Phrase>
     ensures { IsDueIn (what_of what.now) (option_map (λ phrase. phrase.now) result) }
 {
     match what {
-        What::Do(phrase) => Some(phrase),
-        What::Later(_) | What::Shown(_) | What::Closed(_) => None,
-        What::Gone { .. } => None,
-        What::Split { .. } => None,
-        What::SplitProject { .. } => None,
-        What::Opened { .. } => None,
-        What::Running { .. } => None,
+        What::Leaf(Leaf::Do(phrase)) => Some(phrase),
+        What::Leaf(Leaf::Later(_) | Leaf::Shown(_)) => None,
+        What::Holder(_) | What::Gone { .. } => None,
     }
 }
 

@@ -4,12 +4,13 @@ use Rattle.std.specs.Prelude.{slice_set}
 use Rattle.std.proofs.lemmas.List.{length-map}
 use Rattle.tp_scene.specs.Scene as S
 use Rattle.tp_scene.specs.Pick.{scene_after}
+use Rattle.tp_decide.specs.declared.decision.Leaf.TheVariants.{Do}
 use Rattle.tp_decide.specs.declared.phrase.Phrase.{Phrase}
 use Rattle.tp_decide.specs.ReadPhrase.{env_of, formula_of}
 use Rattle.tp_slots.specs.Bound.{IsDueUnder, bound_last, slot_in, slot_with}
 use Rattle.tp_slots.specs.Plain.{bare}
 use Rattle.tp_slots.specs.Read.{item_what, scene_of, slot_of}
-use Rattle.tp_slots.specs.declared.scene.What.TheVariants.{Do}
+use Rattle.tp_slots.specs.declared.scene.What.TheVariants.{Leaf}
 use Rattle.tp_slots.specs.Reductions.{becomes_leaves}
 use Rattle.tp_slots.proofs.Bounding.{back_unchanged, due_is_bare, env_there, more_kept, more_news, more_scene, out_before, same_what}
 use Rattle.tp_slots.proofs.Changing.{unchanged_kept}
@@ -60,7 +61,7 @@ returns-clause-scene_err c =
     let mid = c.take_due-taken.new.scene.slots.items in
     let out = out_before s c.make_room.new.scene t c.len-next.result taken mid c.make_room.ensures.same c.take_due-taken.ensures.taken in
     back_unchanged s c.put_back.new.scene t c.len-next.result taken mid c.requires.kept c.requires.lives out
-    (c.put_back.ensures.slots ∙ ap (λ e. slice_set mid t (slot_with (slot_in mid t) (Do (record { what = taken.what; env = e })))) c.in-Err.ensures.env_err)
+    (c.put_back.ensures.slots ∙ ap (λ e. slice_set mid t (slot_with (slot_in mid t) (Leaf (Do (record { what = taken.what; env = e }))))) c.in-Err.ensures.env_err)
     (ap (λ v. v.items) (c.put_back.ensures.regions ∙ c.take_due-taken.ensures.regions) ∙ c.make_room.ensures.same.regions)
 
 pub returns-clause-kept : goal.returns-clause-kept

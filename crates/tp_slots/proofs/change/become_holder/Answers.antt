@@ -12,7 +12,7 @@ use Rattle.tp_slots.specs.Plain as plain
 use Rattle.tp_slots.specs.Plain.{RegionSlot}
 use Rattle.tp_slots.specs.Row.{AllBelow, begun, stepped, held_after}
 use Rattle.tp_slots.specs.Threads.{afters_then}
-use Rattle.tp_slots.specs.Read.{afters_of, ends_of, goes_of, holders_of, region_slot_of, scene_of, slot_of, slots_of, what_of}
+use Rattle.tp_slots.specs.Read.{afters_of, ends_of, goes_of, holders_of, plain_holder, region_slot_of, scene_of, slot_of, slots_of, what_of}
 use Rattle.tp_slots.specs.Reductions.{AreBare, becomes_holder, holder_then}
 use Rattle.tp_slots.specs.declared.scene.What as code
 use Rattle.tp_slots.proofs.Instances.{one_lives}
@@ -50,13 +50,13 @@ returns c =
     let asleep = one_lives holder alone in
     let first : c.len.result ≡ length s.slots.items = search rules in
     let count = sym (length-map s.regions.items region_slot_of) in
-    let held : what_of a.holder ≡ plain.holds holder (length (slots_of s).regions) None = k.one.1 ∙ (λ i. plain.holds holder (count i) None) in
+    let held : plain_holder a.holder ≡ plain.holds holder (length (slots_of s).regions) None = k.one.1 ∙ (λ i. plain.holds holder (count i) None) in
     let slots = put.slots ∙ ((λ i. stepped (slots_of s) a.item None (map what_of (ins i)) (map what_of (outs i))) ∙ (λ i. stepped (slots_of s) a.item None (due ∷ []) (held i ∷ []))) in
     let holders = put.holders ∙ ((λ i. held_after (slots_of s) (map what_of (ins i)) (map what_of (outs i)) (holders_of s)) ∙ (λ i. held_after (slots_of s) (due ∷ []) (held i ∷ []) (holders_of s))) in
     let ends = put.ends ∙ ap (λ (l : List code.What). ends_of s ++ map (λ (x : RegionSlot). false) (begun 0 (length l))) ins in
     let goes = put.goes ∙ ap (λ (l : List code.What). goes_of s ++ map (λ (x : RegionSlot). false) (begun 0 (length l))) ins in
     let afters = put.afters ∙ (λ i. afters_then (afters_of s) (length (ins i)) (length (outs i)) a.item) in
-    let reduction = becomes_holder (scene_of s) (formula_of a.first) (env_of a.first) (what_of a.holder) in
+    let reduction = becomes_holder (scene_of s) (formula_of a.first) (env_of a.first) (plain_holder a.holder) in
     let news = ap (λ w. holder_then (1 + length (slots_of s).slots) w (region_of (length (slots_of s).regions) (0 + length (slots_of s).slots) (formula_of a.first) (env_of a.first))) held in
     let scene : scene_of next ≡ scene_after a.item reduction (scene_of s) = begins_scene s a.item (formula_of a.first) (env_of a.first) holder alone asleep k.kept k.lives k.free next 0 slots holders ends goes reduction news refl refl refl in
     record {

@@ -22,12 +22,11 @@ loop-leaf-preserved c =
     let before = bare_leaves c.loop-leaf.yielded in
     let i = c.loop-leaf.invariant in
     let small = i.4 in
-    let this = c.leaf_what.ensures in
     let w = plain.bare (plain_leaf c.in-Some.leaf) in (
       tt,
       tt,
       slots_then home (map slot_of c.args.list.now.items) (map slot_of c.loop-leaf.list.items) (map slot_of c.push_link.new.list.items) before w
-          (c.in-Ok.ensures.slots ∙ (λ j. map slot_of c.loop-leaf.list.items ++ record { home = home; what = this j } ∷ [])) i.2
+          c.in-Ok.ensures.slots i.2
           ∙ ap (λ l. map slot_of c.args.list.now.items ++ slots_in home l) (sym (map-append (λ (l : Leaf). plain.bare (plain_leaf l)) c.loop-leaf.yielded (c.in-Some.leaf ∷ []))),
       search rules,
       omega (arith, small),

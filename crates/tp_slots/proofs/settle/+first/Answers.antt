@@ -151,11 +151,5 @@ first_inside-returns t c =
     let all = region_live (slots_of s) c.requires.kept.shape.ordered c.args.region (omega (arith, r, e)) ∙ ap (live_in (slots_of s)) (sym roots) in
     sym (ap (first_waiting s) all ∙ (ap (λ xs. first_waiting s (live_in (slots_of s) xs)) (sym whole) ∙ c.loop-i.invariant))
 
-pub first_held-returns-in-Do : goal.first_held-returns-in-Do
-first_held-returns-in-Do t c = c.or_itself.ensures [] refl ∙ ap (λ w. first_waiting c.args.scene.now (standing c.args.scene.now c.args.item (what_of w))) (sym c.in-Do.is)
-
-pub first_held-returns-in-Later : goal.first_held-returns-in-Later
-first_held-returns-in-Later t c = c.or_itself-in-Later.ensures [] refl ∙ ap (λ w. first_waiting c.args.scene.now (standing c.args.scene.now c.args.item (what_of w))) (sym c.in-Later.is)
-
-pub first_held-returns-in-Shown : goal.first_held-returns-in-Shown
-first_held-returns-in-Shown t c = c.or_itself-in-Shown.ensures [] refl ∙ ap (λ w. first_waiting c.args.scene.now (standing c.args.scene.now c.args.item (what_of w))) (sym c.in-Shown.is)
+pub first_held-returns-in-Leaf : goal.first_held-returns-in-Leaf
+first_held-returns-in-Leaf t c = c.or_itself.ensures [] refl ∙ ap (λ w. first_waiting c.args.scene.now (standing c.args.scene.now c.args.item (what_of w))) (sym c.in-Leaf.is)
