@@ -6,9 +6,8 @@ use Rattle.tp_verdict.proofs.leaves.assign_table.Goals as goal
 
 pub returns-clause-verdicts : goal.returns-clause-verdicts
 returns-clause-verdicts c =
-    let m = c.in_ok-table.ensures.many in
     let states = c.args.states.now in
     let rows = c.in_ok-table.table.rows.items in
-    assign_kind states rows (omega (arith, m)) (expr_tree c.args.target.now) (expr_tree c.args.source.now) c.as_slice.result.now c.as_slice-2.result.now
+    assign_kind states rows (omega (arith, c.in_ok-table.ensures.many)) (expr_tree c.args.target.now) (expr_tree c.args.source.now) c.as_slice.result.now c.as_slice-2.result.now
     (ap (map outcome_tree) c.as_slice.ensures.value ∙ c.in_ok-ends.ensures)
     (ap (map outcome_tree) c.as_slice-2.ensures.value ∙ c.in_ok-starts.ensures) c.in_ok-table.ensures.verdicts

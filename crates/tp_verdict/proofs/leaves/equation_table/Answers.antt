@@ -5,5 +5,4 @@ use Rattle.tp_verdict.proofs.leaves.equation_table.Goals as goal
 
 pub returns-clause-verdicts : goal.returns-clause-verdicts
 returns-clause-verdicts c =
-    let m = c.in_ok-table.ensures.many in
-    equation_kind c.args.states.now c.in_ok-table.table.rows.items (omega (arith, m)) (expr_tree c.args.first.now) (expr_tree c.args.second.now) c.in_ok-table.ensures.verdicts
+    equation_kind c.args.states.now c.in_ok-table.table.rows.items (omega (arith, c.in_ok-table.ensures.many)) (expr_tree c.args.first.now) (expr_tree c.args.second.now) c.in_ok-table.ensures.verdicts

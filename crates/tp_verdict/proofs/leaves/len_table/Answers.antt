@@ -6,8 +6,7 @@ use Rattle.tp_verdict.proofs.leaves.len_table.Goals as goal
 
 pub returns-clause-verdicts : goal.returns-clause-verdicts
 returns-clause-verdicts c =
-    let m = c.in_ok-table.ensures.many in
     let states = c.args.states.now in
     let rows = c.in_ok-table.table.rows.items in
-    len_kind states rows (omega (arith, m)) (expr_tree c.args.expr.now) c.as_slice.result.now
+    len_kind states rows (omega (arith, c.in_ok-table.ensures.many)) (expr_tree c.args.expr.now) c.as_slice.result.now
     (ap (map outcome_tree) c.as_slice.ensures.value ∙ c.in_ok-found.ensures) c.in_ok-table.ensures.verdicts

@@ -9,7 +9,6 @@ use Rattle.tp_verdict.proofs.leaves.next_equation_table.Goals as goal
 
 pub returns-clause-verdicts : goal.returns-clause-verdicts
 returns-clause-verdicts c =
-    let m = c.in_ok-table.ensures.many in
     let states = c.args.states.now in
     let rows = c.in_ok-table.table.rows.items in
     let t = expr_tree c.args.first.now in
@@ -20,7 +19,7 @@ returns-clause-verdicts c =
     let h = ap (map outcome_tree) c.as_slice.ensures.value ∙ c.in_ok-firsts.ensures in
     let k = ap (map outcome_tree) c.as_slice-2.ensures.value ∙ c.in_ok-seconds.ensures in
     let many = outcomes_length e states es k in
-    next_equation_kind states rows (omega (arith, m)) c.args.ahead t e vs
+    next_equation_kind states rows (omega (arith, c.in_ok-table.ensures.many)) c.args.ahead t e vs
     (λ i l. ap (λ (xs : List Verdict). verdict_listed xs i) c.as_slice-3.ensures.value
     ∙ c.in_ok-verdicts.ensures i (omega (arith, l, many))
     ∙ ap (paired ts es i) (let z : i + c.args.ahead ≡ c.args.ahead + i = omega arith in z)

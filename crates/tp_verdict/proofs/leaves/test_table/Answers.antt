@@ -10,12 +10,11 @@ use Rattle.tp_verdict.proofs.leaves.test_table.Goals as goal
 
 pub returns-clause-verdicts : goal.returns-clause-verdicts
 returns-clause-verdicts c =
-    let m = c.in_ok-table.ensures.many in
     let states = c.args.states.now in
     let rows = c.in_ok-table.table.rows.items in
     let e = expr_tree c.args.expr.now in
     let vs = c.as_slice-2.result.now in
-    test_kind states rows (omega (arith, m)) e vs
+    test_kind states rows (omega (arith, c.in_ok-table.ensures.many)) e vs
     (listed_is e (truth true) states c.in_ok-found.found.items vs c.in_ok-found.ensures
     (ap (map verdict_of) c.as_slice-2.ensures.value ∙ c.in_ok-verdicts.ensures
     ∙ ap (map (λ (o : Outcome). value_verdict (outcome_tree o) (truth true))) c.as_slice.ensures.value))

@@ -5,13 +5,10 @@ use Rattle.tp_verdict.proofs.tables.empty_rows.Goals as goal
 
 pub starts-preserved : goal.starts-preserved
 starts-preserved c =
-    let before = c.starts.invariant in
-    let old = c.starts.rows.items in
-    let new = c.push.new.self.items in
-    let row = c.in_ok-row.row in
+    let rows = c.starts.rows.items in
     let items = c.in_ok-push.ensures.items in
-    let more = length_more old new row (length old) items refl in
+    let more = length_more rows c.push.new.self.items c.in_ok-row.row (length rows) items refl in
     record {
       many = omega (arith, more);
-      width = pushed (λ i r. width_of r ≡ words_for c.args.n) old new row (length old) items refl before.width c.in_ok-row.ensures.width;
+      width = pushed (λ i r. width_of r ≡ words_for c.args.n) rows c.push.new.self.items c.in_ok-row.row (length rows) items refl c.starts.invariant.width c.in_ok-row.ensures.width;
     }
