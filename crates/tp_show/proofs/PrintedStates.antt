@@ -6,6 +6,7 @@ use Rattle.std.specs.Str.Lines.{lines}
 use Rattle.std.proofs.lemmas.Bool.{and_parts}
 use Rattle.std.specs.List.Sorted.{IsPermutation}
 use Rattle.std.proofs.lemmas.List.Sorted.{IsPermutation-refl, IsPermutation-map, All-permutation}
+use Rattle.std.proofs.lemmas.List.{length-map}
 use Rattle.std.proofs.lemmas.List.Elements.{All-nil, All-cons, All-head, All-tail}
 use Rattle.tp_value.specs.Number.{IsNumber}
 use Rattle.tp_value.specs.Written.{text_of}
@@ -157,6 +158,9 @@ unmoved_count : (n : ℕ) (states : List PrintedState) → CountFrom n (map (λ 
 unmoved_count n [] c = tt
 unmoved_count n (s ∷ states) c = (c.0, unmoved_count (suc n) states c.1)
 
+some_mapped : {A B : Type 0} (f : A → B) (xs : List A) → 0 < length xs → 0 < length (map f xs)
+some_mapped f xs h = omega (arith, length-map xs f)
+
 unmoved_arranged : (names : List (List ℕ)) (states : List PrintedState) → All (IsPrinted names) states → All (IsArranged names) (map unmoved states)
 unmoved_arranged names [] h = All-nil (IsArranged names)
 unmoved_arranged names (s ∷ states) h =
@@ -169,13 +173,9 @@ unmoved_facts names (s ∷ states) h =
     let first = parts_give names parts ∙ ap (map (named_fact names)) (parts_give_facts names s.picture.facts (All-head (IsPrinted names) s states h).picture.facts) in
     ap₂ (λ f fs. f ∷ fs) first (unmoved_facts names states (All-tail (IsPrinted names) s states h))
 
-some_unmoved : (states : List PrintedState) → 0 < length states → 0 < length (map unmoved states)
-some_unmoved [] h = h
-some_unmoved (s ∷ states) h = omega arith
-
 printed_states : PrintedStatesAreTrace
 printed_states names are states h count some text ending =
-    let trace = arranged_states names are (map unmoved states) (unmoved_arranged names states h) (unmoved_count 0 states count) (some_unmoved states some) text ending in
+    let trace = arranged_states names are (map unmoved states) (unmoved_arranged names states h) (unmoved_count 0 states count) (some_mapped unmoved states some) text ending in
     let facts = subst (λ (fs : List (List NamedFact)). IsTraceText (arranged_text names (map unmoved states) ++ text) fs) (unmoved_facts names states h) trace in
     subst (λ (z : List ℕ). IsTraceText (z ++ text) (map (λ s. named_facts names s.picture) states)) (unmoved_text names states) facts
 
@@ -201,13 +201,9 @@ alone_printed names [] h = All-nil (IsPrinted names)
 alone_printed names (p ∷ pictures) h =
     All-cons (IsPrinted names) (alone p) (map alone pictures) (record { picture = All-head (IsReadable names) p pictures h; further = All-nil IsFurtherLine }) (alone_printed names pictures (All-tail (IsReadable names) p pictures h))
 
-some_alone : (pictures : List Picture) → 0 < length pictures → 0 < length (map alone pictures)
-some_alone [] h = h
-some_alone (p ∷ pictures) h = omega arith
-
 pictures_alone : PicturesAreTrace
 pictures_alone names are pictures h count some text ending =
-    let trace = printed_states names are (map alone pictures) (alone_printed names pictures h) (alone_count 0 pictures count) (some_alone pictures some) text ending in
+    let trace = printed_states names are (map alone pictures) (alone_printed names pictures h) (alone_count 0 pictures count) (some_mapped alone pictures some) text ending in
     let facts = subst (λ (fs : List (List NamedFact)). IsTraceText (printed_states_text names (map alone pictures) ++ text) fs) (alone_facts names pictures) trace in
     subst (λ (z : List ℕ). IsTraceText (z ++ text) (map (named_facts names) pictures)) (alone_text names pictures) facts
 

@@ -1,5 +1,5 @@
 -- Where a front of passing bytes ends, and what numbers texts of digits spell.
-use Rattle.std.proofs.Common.{◌≡◌, ℕ, suc, ◌+◌, ◌<◌, ◌≤◌, ltb, leb, Bool, true, false, ◌&&◌, cond, List, [], ◌∷◌, ◌++◌, length, take, drop, Some, None, refl, sym, ap, ◌∙◌, subst, arith, tests}
+use Rattle.std.proofs.Common.{◌≡◌, ℕ, suc, ◌+◌, ◌<◌, ◌≤◌, ltb, leb, Bool, true, false, not, ◌&&◌, ◌==◌, cond, List, [], ◌∷◌, ◌++◌, length, take, drop, Some, None, refl, sym, ap, ◌∙◌, subst, arith, tests}
 use Rattle.std.specs.List.{prefix_len}
 use Rattle.std.specs.Char.{is_ascii_digit}
 use Rattle.tp_value.specs.Spelling.{AllDigits, AreDigits, decimal_value}
@@ -44,6 +44,15 @@ front_within p (b ∷ z) = by (front_within p z) (p b)
     by later true = omega (arith, later)
     by later false = omega arith
 
+-- bytes that pass are other than one that doesn't
+pub pass_another : (p : ℕ → Bool) (stop : ℕ) (z : List ℕ) → p stop ≡ false → AllPass p z → AllPass (λ b. not (b == stop)) z
+pass_another p stop [] e h = tt
+pass_another p stop (b ∷ z) e h = (apart (b == stop) refl, pass_another p stop z e h.1)
+  where
+    apart : (c : Bool) → (b == stop) ≡ c → not (b == stop) ≡ true
+    apart true t = let same : b ≡ stop = grind (arith, tests, t) in let d : p stop ≡ true = subst (λ (x : ℕ). p x ≡ true) same h.0 in absurd cc
+    apart false t = ap not t
+
 -- digits
 
 pub digits_true : (z : List ℕ) → AllDigits z → all_digits z ≡ true
@@ -61,6 +70,14 @@ digits_from (b ∷ z) h = by (digits_from z) (is_ascii_digit b) refl h
 pub some_digits : (z : List ℕ) → AreDigits z → AllDigits z × (0 < length z)
 some_digits [] h = absurd h
 some_digits (b ∷ z) h = (h, omega arith)
+
+pass_digits : (z : List ℕ) → AllDigits z → AllPass is_ascii_digit z
+pass_digits [] h = tt
+pass_digits (b ∷ z) h = (h.0, pass_digits z h.1)
+
+-- no digit is another byte
+pub no_digit : (stop : ℕ) (ds : List ℕ) → is_ascii_digit stop ≡ false → AreDigits ds → AllPass (λ b. not (b == stop)) ds
+no_digit stop ds e h = pass_another is_ascii_digit stop ds e (pass_digits ds (some_digits ds h).0)
 
 pub within_from : (limit : ℕ) (z : List ℕ) → AreDigits z → decimal_value z ≤ limit → digits_within limit z ≡ Some (decimal_value z)
 within_from limit z h small =

@@ -11,8 +11,8 @@ use Rattle.tp_lex.proofs.SpellingLemmas.{word_none, no_word}
 use Rattle.tp_lex.specs.declared.token.Word.{Word}
 use Rattle.tp_show.specs.TraceLine.{AreNameBytes, IsVariableName, SpellsIndices, none, index, SpellsPath}
 use Rattle.tp_show.specs.TraceReading.{is_variable_name}
-use Rattle.tp_show.proofs.TraceDigits.{AllPass, Stops, front_len, front_passes, some_digits}
-use Rattle.tp_show.proofs.TracePaths.{no_digit, indices_unique}
+use Rattle.tp_show.proofs.TraceDigits.{AllPass, Stops, front_len, front_passes, pass_another, no_digit}
+use Rattle.tp_show.proofs.TracePaths.{indices_unique}
 
 pass_from : (z : List ℕ) → AreNameBytes z → AllPass is_name_byte z
 pass_from [] h = tt
@@ -111,21 +111,13 @@ pub passes_append : (p : ℕ → Bool) (xs ys : List ℕ) → AllPass p xs → A
 passes_append p [] ys h k = k
 passes_append p (x ∷ xs) ys h k = (h.0, passes_append p xs ys h.1 k)
 
-no_name_byte : (stop : ℕ) (z : List ℕ) → is_name_byte stop ≡ false → AreNameBytes z → AllPass (λ b. not (b == stop)) z
-no_name_byte stop [] e h = tt
-no_name_byte stop (b ∷ z) e h = (apart (b == stop) refl, no_name_byte stop z e h.1)
-  where
-    apart : (c : Bool) → (b == stop) ≡ c → not (b == stop) ≡ true
-    apart true t = let same : b ≡ stop = grind (arith, tests, t) in let d : is_name_byte stop ≡ true = subst (λ (x : ℕ). is_name_byte x ≡ true) same h.0 in absurd cc
-    apart false t = ap not t
-
 indices_pass : {z at : List ℕ} → SpellsIndices z at → AllPass (λ b. not (b == 61)) z
 indices_pass none = tt
-indices_pass (index ds z is h small s) = (refl, passes_append (λ b. not (b == 61)) ds (93 ∷ z) (no_digit 61 ds refl (some_digits ds h).0) (refl, indices_pass s))
+indices_pass (index ds z is h small s) = (refl, passes_append (λ b. not (b == 61)) ds (93 ∷ z) (no_digit 61 ds refl h) (refl, indices_pass s))
 
 pub path_passes : (text name at : List ℕ) → SpellsPath text name at → AllPass (λ b. not (b == 61)) text
 path_passes text name at s =
-    subst (AllPass (λ b. not (b == 61))) (sym s.split) (passes_append (λ b. not (b == 61)) name s.indices (no_name_byte 61 name refl s.variable_name.bytes) (indices_pass s.spelled))
+    subst (AllPass (λ b. not (b == 61))) (sym s.split) (passes_append (λ b. not (b == 61)) name s.indices (pass_another is_name_byte 61 name refl (pass_from name s.variable_name.bytes)) (indices_pass s.spelled))
 
 -- a path doesn't begin with `|`
 pub no_bar_first : (z name at : List ℕ) → ¬ SpellsPath (124 ∷ z) name at

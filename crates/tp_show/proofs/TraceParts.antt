@@ -14,8 +14,8 @@ use Rattle.tp_show.specs.TraceFacts.{TracePart, has_value, has_length}
 use Rattle.tp_show.specs.TraceLine.{SpellsPath, SpellsPart, value, list_length}
 use Rattle.tp_show.specs.TraceReading.{len_before, digits_within, is_apart, BeginsWithValue, IsValueAt, IsLengthAt, IsAround, BeginsWithPart, IsValuePart, IsLengthPart, IsPartAround}
 use Rattle.tp_show.specs.declared.trace_part.ReadPart.{ReadPart}
-use Rattle.tp_show.proofs.TraceDigits.{AllPass, Stops, front_len, front_stops, some_digits, within_from, within_is, IsWithin}
-use Rattle.tp_show.proofs.TracePaths.{cut_at, no_digit}
+use Rattle.tp_show.proofs.TraceDigits.{AllPass, Stops, front_len, front_stops, no_digit, within_from, within_is, IsWithin}
+use Rattle.tp_show.proofs.TracePaths.{cut_at}
 use Rattle.tp_show.proofs.TraceNames.{path_unique, path_passes, no_bar_first}
 
 -- ---- values
@@ -92,7 +92,7 @@ pub record LengthThere (path z : List ℕ) (p : TracePart) (rest : List ℕ) : T
 
 pub length_there : (path z : List ℕ) (p : TracePart) (rest : List ℕ) → IsLengthAt path z p rest → LengthThere path z p rest
 length_there path z p rest l =
-    let n : len_before 32 z ≡ length l.digits = ap (len_before 32) l.split ∙ front_len (λ b. not (b == 32)) l.digits rest (no_digit 32 l.digits refl (some_digits l.digits l.are_digits).0) (apart_stops rest l.apart) in
+    let n : len_before 32 z ≡ length l.digits = ap (len_before 32) l.split ∙ front_len (λ b. not (b == 32)) l.digits rest (no_digit 32 l.digits refl l.are_digits) (apart_stops rest l.apart) in
     let front : take (len_before 32 z) z ≡ l.digits = ap (λ k. take k z) n ∙ (ap (take (length l.digits)) l.split ∙ take_at l.digits rest (length l.digits) refl) in
     let back : drop (len_before 32 z) z ≡ rest = ap (λ k. drop k z) n ∙ (ap (drop (length l.digits)) l.split ∙ drop_at l.digits rest (length l.digits) refl) in
     record {

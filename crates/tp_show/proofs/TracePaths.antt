@@ -1,14 +1,13 @@
 -- Paths: names and indices.
 use Rattle.std.proofs.Common.{◌≡◌, ℕ, suc, ◌+◌, ◌<◌, ◌≤◌, ltb, Bool, true, false, not, cond, inl, inr, ◌⊎◌, List, [], ◌∷◌, ◌++◌, length, take, drop, get_or, Option, Some, None, refl, sym, ap, ◌∙◌, subst, arith, tests, append_assoc, append-nil, codes, length-append, add-one, ◌==◌}
 use Rattle.std.specs.Option.{option_map}
-use Rattle.std.specs.Char.{is_ascii_digit}
 use Rattle.std.proofs.lemmas.Option.{same_Some, none-some}
 use Rattle.std.proofs.lemmas.List.{take_at, drop_at, drop_more, take-append-drop}
 use Rattle.tp_value.specs.Limits.{index_limit}
-use Rattle.tp_value.specs.Spelling.{AllDigits, AreDigits, decimal_value}
+use Rattle.tp_value.specs.Spelling.{AreDigits, decimal_value}
 use Rattle.tp_show.specs.TraceLine.{SpellsIndices, none, index}
 use Rattle.tp_show.specs.TraceReading.{len_before, digits_within, index_of_len, first_index}
-use Rattle.tp_show.proofs.TraceDigits.{AllPass, Stops, front_len, front_stops, some_digits, within_from, within_is}
+use Rattle.tp_show.proofs.TraceDigits.{Stops, front_len, front_stops, no_digit, within_from, within_is}
 
 -- the bytes in front of the first that is this, that byte, and the rest
 pub cut_at : (stop : ℕ) (z : List ℕ) → len_before stop z < length z → z ≡ take (len_before stop z) z ++ stop ∷ drop (suc (len_before stop z)) z
@@ -19,19 +18,10 @@ cut_at stop z h =
     let here : get_or z n 0 ≡ stop = grind (arith, tests, stops) in
     sym (take-append-drop n z) ∙ ap (λ y. take n z ++ y) (rest ∙ (ap (λ b. b ∷ drop (n + 1) z) here ∙ ap (λ k. stop ∷ drop k z) (add-one n)))
 
--- no digit is another byte
-pub no_digit : (stop : ℕ) (ds : List ℕ) → is_ascii_digit stop ≡ false → AllDigits ds → AllPass (λ b. not (b == stop)) ds
-no_digit stop [] e h = tt
-no_digit stop (b ∷ z) e h = (apart (b == stop) refl, no_digit stop z e h.1)
-  where
-    apart : (c : Bool) → (b == stop) ≡ c → not (b == stop) ≡ true
-    apart true t = let same : b ≡ stop = grind (arith, tests, t) in let d : is_ascii_digit stop ≡ true = subst (λ (x : ℕ). is_ascii_digit x ≡ true) same h.0 in absurd cc
-    apart false t = ap not t
-
 pub index_from : (ds z : List ℕ) → AreDigits ds → decimal_value ds ≤ index_limit → first_index (codes "[" ++ (ds ++ (codes "]" ++ z))) ≡ Some (decimal_value ds, suc (suc (length ds)))
 index_from ds z h small =
     let y = ds ++ 93 ∷ z in
-    let n : len_before 93 y ≡ length ds = front_len (λ b. not (b == 93)) ds (93 ∷ z) (no_digit 93 ds refl (some_digits ds h).0) refl in
+    let n : len_before 93 y ≡ length ds = front_len (λ b. not (b == 93)) ds (93 ∷ z) (no_digit 93 ds refl h) refl in
     let front : take (length ds) y ≡ ds = take_at ds (93 ∷ z) (length ds) refl in
     let inside : ltb (length ds) (length y) ≡ true = (let long = length-append ds (93 ∷ z) in grind (arith, tests)) in
     let number : digits_within index_limit (take (length ds) y) ≡ Some (decimal_value ds) = ap (digits_within index_limit) front ∙ within_from index_limit ds h small in

@@ -1,5 +1,5 @@
 -- What reading a text comes to that a run prints.
-use Rattle.std.proofs.Common.{◌≡◌, ◌≤◌, ◌<◌, ◌^◌, ◌==◌, cond, ℕ, List, [], ◌∷◌, length, map, Bool, true, false, Ok, Err, inl, inr, refl, sym, ap, subst, arith}
+use Rattle.std.proofs.Common.{◌≡◌, ◌≤◌, ◌<◌, ◌^◌, ◌==◌, cond, ℕ, List, [], ◌∷◌, length, map, Bool, true, false, Result, Ok, Err, IfOk, IfErr, inl, inr, refl, sym, ap, subst, arith}
 use Rattle.std.specs.Str.Lines.{lines, lines_of_parts}
 use Rattle.std.specs.List.{slice_split}
 use Rattle.std.proofs.lemmas.List.Splits.{length-slice_split}
@@ -32,29 +32,25 @@ few_lines bytes small =
     let within = count_by-le-length (λ b. b == 10) bytes in
     omega (arith, few, count, within, small)
 
-pub read_printed : (bytes : List ℕ) (trace : List (List NamedFact)) → length bytes < 2 ^ 63 → IsTraceText bytes trace → ReadsPrinted bytes (Ok trace)
-read_printed bytes trace small is names are states each count some end ending e =
+pub reads_printed : (bytes : List ℕ) (result : Result (List (List NamedFact)) TraceRefusal) → length bytes < 2 ^ 63 → IfOk result (IsTraceText bytes) → IfErr result (IsTraceRefusal bytes) → ReadsPrinted bytes result
+reads_printed bytes (Ok trace) small is refused names are states each count some end ending e =
     let told : List (List NamedFact) = map (λ (s : PrintedState). named_facts names s.picture) states in
     let printed = subst (λ (b : List ℕ). IsTraceText b told) (sym e) (traces_tell_facts.printed names are states each count some end ending) in
     inl (ap Ok (one_trace (lines bytes) (few_lines bytes small) trace told is printed))
-
-pub refused_printed : (bytes : List ℕ) (refusal : TraceRefusal) → IsTraceRefusal bytes refusal → ReadsPrinted bytes (Err refusal)
-refused_printed bytes NoMemory is names are states each count some end ending e = inr refl
-refused_printed bytes (BadLine line) is names are states each count some end ending e =
+reads_printed bytes (Err NoMemory) small is refused names are states each count some end ending e = inr refl
+reads_printed bytes (Err (BadLine line)) small is refused names are states each count some end ending e =
     let told : List (List NamedFact) = map (λ (s : PrintedState). named_facts names s.picture) states in
-    absurd (no_bad_trace (lines bytes) told line (subst (λ (b : List ℕ). IsTraceText b told) (sym e) (traces_tell_facts.printed names are states each count some end ending)) is)
+    absurd (no_bad_trace (lines bytes) told line (subst (λ (b : List ℕ). IsTraceText b told) (sym e) (traces_tell_facts.printed names are states each count some end ending)) refused)
 
 -- ---- where the parts of lines stand in some order
 
-pub read_arranged : (bytes : List ℕ) (trace : List (List NamedFact)) → length bytes < 2 ^ 63 → IsTraceText bytes trace → ReadsArranged bytes (Ok trace)
-read_arranged bytes trace small is names are states each count some end ending e =
+pub reads_arranged : (bytes : List ℕ) (result : Result (List (List NamedFact)) TraceRefusal) → length bytes < 2 ^ 63 → IfOk result (IsTraceText bytes) → IfErr result (IsTraceRefusal bytes) → ReadsArranged bytes result
+reads_arranged bytes (Ok trace) small is refused names are states each count some end ending e =
     let told : List (List NamedFact) = map (arranged_facts names are) states in
     let arranged = subst (λ (b : List ℕ). IsTraceText b told) (sym e) (arranged_states names are states each count some end ending) in
     let same : trace ≡ told = one_trace (lines bytes) (few_lines bytes small) trace told is arranged in
     inl (trace, refl, subst (HaveFactsOf names states) (sym same) (have_facts names are states each))
-
-pub refused_arranged : (bytes : List ℕ) (refusal : TraceRefusal) → IsTraceRefusal bytes refusal → ReadsArranged bytes (Err refusal)
-refused_arranged bytes NoMemory is names are states each count some end ending e = inr refl
-refused_arranged bytes (BadLine line) is names are states each count some end ending e =
+reads_arranged bytes (Err NoMemory) small is refused names are states each count some end ending e = inr refl
+reads_arranged bytes (Err (BadLine line)) small is refused names are states each count some end ending e =
     let told : List (List NamedFact) = map (arranged_facts names are) states in
-    absurd (no_bad_trace (lines bytes) told line (subst (λ (b : List ℕ). IsTraceText b told) (sym e) (arranged_states names are states each count some end ending)) is)
+    absurd (no_bad_trace (lines bytes) told line (subst (λ (b : List ℕ). IsTraceText b told) (sym e) (arranged_states names are states each count some end ending)) refused)

@@ -8,64 +8,51 @@ use tp_scene::{Cell, Clash};
 use tp_store::Store;
 use tp_value::{Fact, Globals, NoMemory, Path, Shape, Text, VarId};
 
+/// Where the names of variables are found.
+#[derive(Drop)]
+pub struct Naming<'a> {
+    pub globals: &'a Globals,
+    pub store: &'a Store,
+}
+
 // A global is written by its name, and a local, whose name the store keeps, after `local `.
-fn append_variable(
-    out: &mut Text,
-    globals: &Globals,
-    store: &Store,
-    var: VarId,
-) -> Result<(), NoMemory>
-    ensures { OnOk result
-        (out.new ≡ out.old ++ variable_text globals.now store.now.variables var) }
+fn append_variable(out: &mut Text, naming: &Naming, var: VarId) -> Result<(), NoMemory>
+    ensures { let n = naming.now in OnOk result
+        (out.new ≡ out.old ++ variable_text n.globals.now n.store.now.variables var) }
 {
-    if let Some(name) = globals.name(var.number) {
+    if let Some(name) = naming.globals.name(var.number) {
         return out.append(name.as_slice());
     }
     out.append(b"local ")?;
-    match store.name(var) {
+    match naming.store.name(var) {
         Some(name) => out.append(name.as_slice()),
         None => Ok(()),
     }
 }
 
-fn append_path(
-    out: &mut Text,
-    globals: &Globals,
-    store: &Store,
-    path: &Path,
-) -> Result<(), NoMemory>
-    ensures { OnOk result
-        (out.new ≡ out.old ++ variable_path_text globals.now store.now.variables path.now) }
+fn append_path(out: &mut Text, naming: &Naming, path: &Path) -> Result<(), NoMemory>
+    ensures { let n = naming.now in OnOk result
+        (out.new ≡ out.old ++ variable_path_text n.globals.now n.store.now.variables path.now) }
 {
-    append_variable(out, globals, store, path.var)?;
+    append_variable(out, naming, path.var)?;
     append_indices(out, &path.at)
 }
 
-fn append_fact(
-    out: &mut Text,
-    globals: &Globals,
-    store: &Store,
-    fact: &Fact,
-) -> Result<(), NoMemory>
-    ensures { OnOk result
-        (out.new ≡ out.old ++ variable_fact_text globals.now store.now.variables fact.now) }
+fn append_fact(out: &mut Text, naming: &Naming, fact: &Fact) -> Result<(), NoMemory>
+    ensures { let n = naming.now in OnOk result
+        (out.new ≡ out.old ++ variable_fact_text n.globals.now n.store.now.variables fact.now) }
 {
     append_opening(out, &fact.shape)?;
-    append_path(out, globals, store, &fact.path)?;
+    append_path(out, naming, &fact.path)?;
     append_closing(out, &fact.shape)
 }
 
-pub fn append_cell(
-    out: &mut Text,
-    globals: &Globals,
-    store: &Store,
-    cell: &Cell,
-) -> Result<(), NoMemory>
-    ensures { OnOk result
-        (out.new ≡ out.old ++ cell_text globals.now store.now.variables cell.now) }
+pub fn append_cell(out: &mut Text, naming: &Naming, cell: &Cell) -> Result<(), NoMemory>
+    ensures { let n = naming.now in OnOk result
+        (out.new ≡ out.old ++ cell_text n.globals.now n.store.now.variables cell.now) }
 {
     match cell {
-        Cell::Part(path) => append_path(out, globals, store, path),
+        Cell::Part(path) => append_path(out, naming, path),
         Cell::End { depth, .. } => append_counted(out, b"end at depth ", u64::from(*depth)),
     }
 }
@@ -93,22 +80,16 @@ fn leads(a: &Fact, b: &Fact) -> bool
     m < n || (m == n && shape_leads(&a.shape, &b.shape))
 }
 
-fn append_pair(
-    out: &mut Text,
-    globals: &Globals,
-    store: &Store,
-    first: &Fact,
-    second: &Fact,
-) -> Result<(), NoMemory>
-    ensures { OnOk result
+fn append_pair(out: &mut Text, naming: &Naming, first: &Fact, second: &Fact) -> Result<(), NoMemory>
+    ensures { let n = naming.now in OnOk result
         (out.new
         ≡ out.old
-        ++ pair_text (variable_fact_text globals.now store.now.variables first.now)
-        (variable_fact_text globals.now store.now.variables second.now)) }
+        ++ pair_text (variable_fact_text n.globals.now n.store.now.variables first.now)
+        (variable_fact_text n.globals.now n.store.now.variables second.now)) }
 {
-    append_fact(out, globals, store, first)?;
+    append_fact(out, naming, first)?;
     out.append(b" and ")?;
-    append_fact(out, globals, store, second)
+    append_fact(out, naming, second)
 }
 
 fn fault_name(fault: FaultKind) -> &'static str
@@ -121,21 +102,16 @@ fn fault_name(fault: FaultKind) -> &'static str
     }
 }
 
-pub fn append_clash(
-    out: &mut Text,
-    globals: &Globals,
-    store: &Store,
-    clash: &Clash,
-) -> Result<(), NoMemory>
-    ensures { OnOk result
-        (out.new ≡ out.old ++ clash_text globals.now store.now.variables clash.now) }
+pub fn append_clash(out: &mut Text, naming: &Naming, clash: &Clash) -> Result<(), NoMemory>
+    ensures { let n = naming.now in OnOk result
+        (out.new ≡ out.old ++ clash_text n.globals.now n.store.now.variables clash.now) }
 {
     match clash {
         Clash::Facts { kept, new } => {
             if leads(kept, new) {
-                append_pair(out, globals, store, kept, new)
+                append_pair(out, naming, kept, new)
             } else {
-                append_pair(out, globals, store, new, kept)
+                append_pair(out, naming, new, kept)
             }
         }
         Clash::Marks { depth } => {

@@ -2,7 +2,7 @@
 ghost use Rattle.std.specs.Prelude.{◌≡◌, ◌++◌, OnOk, OnErr};
 ghost use Rattle.tp_show.specs.EndLine.{end_line, last_words, limit_text, reductions_text, state_text};
 
-use crate::clash::{append_cell, append_clash};
+use crate::clash::{Naming, append_cell, append_clash};
 use crate::text::{append_counted, piece_for};
 use crate::turn::Turn;
 use tp_kernel::LimitKind;
@@ -53,24 +53,23 @@ fn append_limit(
 // What the end line says before its line feed.
 fn append_last_words(
     out: &mut Text,
-    globals: &Globals,
-    store: &Store,
+    naming: &Naming,
     reductions: u64,
     turn: &Turn,
 ) -> Result<(), NoMemory>
-    ensures { OnOk result
-        (out.new ≡ out.old ++ last_words globals.now store.now.variables reductions turn.now) }
+    ensures { let n = naming.now in OnOk result
+        (out.new ≡ out.old ++ last_words n.globals.now n.store.now.variables reductions turn.now) }
 {
     match turn {
         Turn::Went => Ok(()),
         Turn::Finished { length } => append_counted(out, b"finished: length ", *length),
         Turn::Contradictory { state, clash } => {
             append_state_and(out, b"contradictory", *state, b": ")?;
-            append_clash(out, globals, store, clash)
+            append_clash(out, naming, clash)
         }
         Turn::Undetermined { state, cell } => {
             append_state_and(out, b"undetermined", *state, b": ")?;
-            append_cell(out, globals, store, cell)
+            append_cell(out, naming, cell)
         }
         Turn::StateLimit { states } => append_counted(out, b"state limit: ", *states),
         Turn::InputMissing { state, port } => {
@@ -81,20 +80,14 @@ fn append_last_words(
     }
 }
 
-fn append_end(
-    out: &mut Text,
-    globals: &Globals,
-    store: &Store,
-    reductions: u64,
-    turn: &Turn,
-) -> Result<(), NoMemory>
-    ensures { OnOk result
-        (out.new ≡ out.old ++ end_line globals.now store.now.variables reductions turn.now) }
+fn append_end(out: &mut Text, naming: &Naming, reductions: u64, turn: &Turn) -> Result<(), NoMemory>
+    ensures { let n = naming.now in OnOk result
+        (out.new ≡ out.old ++ end_line n.globals.now n.store.now.variables reductions turn.now) }
 {
     if let Turn::Went = turn {
         return Ok(());
     }
-    append_last_words(out, globals, store, reductions, turn)?;
+    append_last_words(out, naming, reductions, turn)?;
     out.append(b"\n")
 }
 
@@ -111,7 +104,8 @@ pub fn end_text(
         (out.new ≡ out.old ++ end_line globals.now store.now.variables reductions turn.now) }
     ensures err { OnErr result (out.new ≡ out.old) }
 {
+    let naming = Naming { globals, store };
     let mut piece = piece_for(out);
-    append_end(&mut piece, globals, store, reductions, turn)?;
+    append_end(&mut piece, &naming, reductions, turn)?;
     out.append(piece.as_slice())
 }

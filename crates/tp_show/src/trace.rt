@@ -65,16 +65,10 @@ impl<T: Drop> From<AllocFailed<T>> for TraceRefusal {
     }
 }
 
-/// The states of a trace, from its text. Lines end with a line feed, or with a carriage return and a line feed, which the last may
-/// lack. The line of a state is `state `, its number, which counts from 0, `:`, and any number of parts `PATH=VALUE` and
-/// `|PATH|=LENGTH`, each after one space, whose facts don't clash. A path is the name of a variable and indices, as `L[1]`. Behind the
-/// line of a state there may be lines that begin with `show`, `reductions ` or `residual: `, which are passed over, and last there may
-/// be one that begins as the line does that ends the text of a run. The first line that isn't allowed where it stands is refused.
-pub fn read_trace(alloc: Global, bytes: &[u8]) -> Result<Trace, TraceRefusal>
+// The states of a trace, from its text.
+fn states_of(alloc: Global, bytes: &[u8]) -> Result<Trace, TraceRefusal>
     ensures trace { IfOk result (λ trace. IsTraceText bytes.now trace) }
     ensures refused { IfErr result (λ refusal. IsTraceRefusal bytes.now refusal) }
-    ensures printed { ReadsPrinted bytes.now result }
-    ensures arranged { ReadsArranged bytes.now result }
 {
     let mut states = Vec::new(alloc);
     let mut rest = bytes;
@@ -99,4 +93,18 @@ pub fn read_trace(alloc: Global, bytes: &[u8]) -> Result<Trace, TraceRefusal>
         return Err(TraceRefusal::BadLine { line: 1 });
     }
     Ok(Trace { states })
+}
+
+/// The states of a trace, from its text. Lines end with a line feed, or with a carriage return and a line feed, which the last may
+/// lack. The line of a state is `state `, its number, which counts from 0, `:`, and any number of parts `PATH=VALUE` and
+/// `|PATH|=LENGTH`, each after one space, whose facts don't clash. A path is the name of a variable and indices, as `L[1]`. Behind the
+/// line of a state there may be lines that begin with `show`, `reductions ` or `residual: `, which are passed over, and last there may
+/// be one that begins as the line does that ends the text of a run. The first line that isn't allowed where it stands is refused.
+pub fn read_trace(alloc: Global, bytes: &[u8]) -> Result<Trace, TraceRefusal>
+    ensures trace { IfOk result (λ trace. IsTraceText bytes.now trace) }
+    ensures refused { IfErr result (λ refusal. IsTraceRefusal bytes.now refusal) }
+    ensures printed { ReadsPrinted bytes.now result }
+    ensures arranged { ReadsArranged bytes.now result }
+{
+    states_of(alloc, bytes)
 }

@@ -64,12 +64,11 @@ fn apart_value(alloc: Global, text: &[u8]) -> Result<Option<(Value, usize)>, NoM
     }
 }
 
+// A part, where there is one, and how many bytes it has.
+type PartFound = Option<(ReadPart, usize)>;
+
 // The value at a path, whose text comes behind `=`.
-fn value_part(
-    alloc: Global,
-    path: &[u8],
-    text: &[u8],
-) -> Result<Option<(ReadPart, usize)>, NoMemory>
+fn value_part(alloc: Global, path: &[u8], text: &[u8]) -> Result<PartFound, NoMemory>
     ensures { IfOk result (IsValuePart path.now text.now) }
 {
     let Some(path) = read_path(alloc, path)? else {
@@ -82,11 +81,7 @@ fn value_part(
 }
 
 // The length of the list at a path, whose text comes behind `=`.
-fn length_part(
-    alloc: Global,
-    path: &[u8],
-    text: &[u8],
-) -> Result<Option<(ReadPart, usize)>, NoMemory>
+fn length_part(alloc: Global, path: &[u8], text: &[u8]) -> Result<PartFound, NoMemory>
     ensures { IfOk result (IsLengthPart path.now text.now) }
 {
     let Some(path) = read_path(alloc, path)? else {
@@ -112,11 +107,7 @@ fn between_bars(text: &[u8]) -> Option<&[u8]>
 }
 
 // The part whose text is cut at its `=`, and how many bytes of it come behind.
-fn part_around(
-    alloc: Global,
-    left: &[u8],
-    text: &[u8],
-) -> Result<Option<(ReadPart, usize)>, NoMemory>
+fn part_around(alloc: Global, left: &[u8], text: &[u8]) -> Result<PartFound, NoMemory>
     ensures { IfOk result (IsPartAround left.now text.now) }
 {
     match between_bars(left) {
@@ -126,7 +117,7 @@ fn part_around(
 }
 
 // The part that comes first, and how many bytes it has.
-fn first_part(alloc: Global, text: &[u8]) -> Result<Option<(ReadPart, usize)>, NoMemory>
+fn first_part(alloc: Global, text: &[u8]) -> Result<PartFound, NoMemory>
     ensures { IfOk result (IsPartFound text.now) }
 {
     let cut = len_before(b'=', text);
@@ -140,7 +131,7 @@ fn first_part(alloc: Global, text: &[u8]) -> Result<Option<(ReadPart, usize)>, N
 }
 
 // The part that comes first behind a space, and how many bytes it has with the space.
-fn next_part(alloc: Global, text: &[u8]) -> Result<Option<(ReadPart, usize)>, NoMemory>
+fn next_part(alloc: Global, text: &[u8]) -> Result<PartFound, NoMemory>
     ensures { IfOk result (IsNextPart text.now) }
 {
     let [b' ', more @ ..] = text else {

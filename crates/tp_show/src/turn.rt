@@ -1,5 +1,10 @@
 // What a run answers for a state.
+ghost use Rattle.std.specs.Prelude.{◌≡◌};
+ghost use Rattle.tp_show.specs.Parts.{line_parts};
+ghost use Rattle.tp_show.specs.Read.{plain_parts};
+
 use crate::line_part::LineParts;
+use std::alloc::Global;
 use tp_decide::Shows;
 use tp_kernel::LimitKind;
 use tp_scene::{Cell, Clash};
@@ -15,6 +20,27 @@ pub struct Picture {
     pub parts: LineParts,
     pub shows: Shows,
     pub reductions: u64,
+}
+
+impl Picture {
+    /// A picture of no state yet.
+    pub fn new(alloc: Global) -> Picture
+        ensures parts { plain_parts result.parts ≡ line_parts result.facts }
+    {
+        Picture {
+            state: 0,
+            facts: Facts {
+                items: Vec::new(alloc),
+            },
+            parts: LineParts {
+                items: Vec::new(alloc),
+            },
+            shows: Shows {
+                items: Vec::new(alloc),
+            },
+            reductions: 0,
+        }
+    }
 }
 
 /// What became of a state.

@@ -1,7 +1,7 @@
 use Rattle.std.proofs.Common.{◌+◌, ◌≤◌, length}
 use Rattle.std.specs.Str.Lines.{lines}
 use Rattle.tp_show.proofs.TraceRuns.{TraceSoFar}
-use Rattle.tp_show.proofs.trace.read_trace.Given as goal
+use Rattle.tp_show.proofs.trace.states_of.Given as goal
 
 abbrev pub invariant-loop-rest : goal.invariant-loop-rest
 invariant-loop-rest l = record {
