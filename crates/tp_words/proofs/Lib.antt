@@ -1,5 +1,5 @@
 pub mod AppLemmas
-pub mod LimitLemmas
+pub mod NumeralLemmas
 pub mod SizeLemmas
 pub mod WordsLemmas
 pub mod LawLemmas

@@ -11,7 +11,7 @@ use Rattle.tp_words.specs.Mode.{mode_named, has_other}
 use Rattle.tp_words.specs.Subject.{HasSize}
 use Rattle.tp_words.specs.Order.{order_set}
 use Rattle.tp_words.specs.Words.{Wanted, wanted_in, wanted_without, wanted_of_texts}
-use Rattle.tp_words.proofs.LimitLemmas.{limit_range}
+use Rattle.tp_words.proofs.NumeralLemmas.{limit_range}
 use Rattle.tp_words.proofs.SizeLemmas.{mode_size}
 
 pub not_text : (bytes : List ℕ) (b : Bool) → is_utf8 bytes ≡ b → (IsUtf8 bytes → ⊥) → is_utf8 bytes ≡ false

@@ -1,8 +1,7 @@
 -- The limits that words set: how many states a run settles, and how many reductions it makes in a
 -- state.
-use Rattle.std.specs.Prelude.{ℕ, List, Option, None, Some, nat_le, if◌then◌else◌, ◌&&◌}
-use Rattle.std.specs.Str.Parse.{digits_value}
-use Rattle.tp_words.specs.Numeral.{is_numeral}
+use Rattle.std.specs.Prelude.{ℕ, List, Option, None, Some}
+use Rattle.tp_words.specs.Numeral.{numeral_within}
 
 -- how many digits a limit is written with at most, and the greatest limit
 abbrev pub limit_digits : ℕ
@@ -18,14 +17,9 @@ usual_states = 1000
 abbrev pub usual_reductions : ℕ
 usual_reductions = 100000
 
--- the limit, where it is no less than 1 and no more than the greatest
-abbrev pub limit_within : ℕ → Option ℕ
-limit_within n = if nat_le 1 n && nat_le n greatest_limit then Some n else None
-
--- the limit that a text spells
+-- the limit that a text spells, no less than 1 and no more than the greatest
 abbrev pub limit_spelled : List ℕ → Option ℕ
-limit_spelled text =
-    if is_numeral limit_digits text then limit_within (digits_value 10 text) else None
+limit_spelled = numeral_within limit_digits greatest_limit
 
 -- the limit where an option may have set one
 abbrev pub limit_set : ℕ → Option (List ℕ) → Option ℕ

@@ -1,20 +1,17 @@
 -- The order in which a run takes its items: from the first or from the last, or as a seed says.
-use Rattle.std.specs.Prelude.{◌^◌, ℕ, List, Option, None, Some, option_map, nat_lt, if◌then◌else◌, ◌&&◌, codes}
+use Rattle.std.specs.Prelude.{ℕ, List, Option, None, Some, option_map, if◌then◌else◌, codes}
 use Rattle.std.specs.Str.{bytes_eq}
-use Rattle.std.specs.Str.Parse.{digits_value}
 use Rattle.tp_step.specs.declared.order.Order.{Order}
 use Rattle.tp_step.specs.declared.order.Order.TheVariants.{First, Last, Seed}
-use Rattle.tp_words.specs.Numeral.{is_numeral}
+use Rattle.tp_words.specs.Numeral.{numeral_value}
 
--- how many digits a seed is written with at most; it is below 2 ^ 64
+-- how many digits a seed is written with at most
 abbrev pub seed_digits : ℕ
 seed_digits = 20
 
--- the seed that a text spells
+-- the seed that a text spells, below 2 ^ 64
 abbrev pub seed_spelled : List ℕ → Option ℕ
-seed_spelled text =
-    if is_numeral seed_digits text && nat_lt (digits_value 10 text) (2 ^ 64)
-    then Some (digits_value 10 text) else None
+seed_spelled = numeral_value seed_digits
 
 -- the order with this name, or with this seed
 abbrev pub order_named : List ℕ → Option Order

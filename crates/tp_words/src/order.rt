@@ -1,25 +1,12 @@
 // The order in which a run takes its items.
 ghost use Rattle.std.specs.Prelude.{◌≡◌, option_map};
-ghost use Rattle.tp_words.specs.Order.{seed_spelled, order_named, order_set};
+ghost use Rattle.tp_words.specs.Order.{order_named, order_set};
 
-use crate::numeral::is_numeral;
+use crate::numeral::numeral_value;
 use tp_step::Order;
 
 // How many digits a seed is written with at most.
 const SEED_DIGITS: usize = 20;
-
-// The seed that a text spells.
-fn seed_spelled(text: &str) -> Option<u64>
-    ensures { result ≡ seed_spelled text.now }
-{
-    if !is_numeral(text.as_bytes(), SEED_DIGITS) {
-        return None;
-    }
-    match text.parse::<u64>() {
-        Ok(seed) => Some(seed),
-        Err(_) => None,
-    }
-}
 
 // The order with this name, or with this seed.
 fn order_named(text: &str) -> Option<Order>
@@ -31,7 +18,7 @@ fn order_named(text: &str) -> Option<Order>
     if text == "last" {
         return Some(Order::Last);
     }
-    match seed_spelled(text) {
+    match numeral_value(text, SEED_DIGITS) {
         Some(seed) => Some(Order::Seed(seed)),
         None => None,
     }
