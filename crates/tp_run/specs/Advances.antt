@@ -27,6 +27,11 @@ StandsAtEnd plan ps to turn end =
     (to.standing ≡ answered turn (end_moment plan ps turn end))
     × (to.store ≡ end_store plan ps turn end)
 
+-- with this answer a run ends whose settled states have these pictures; no other picture is made
+abbrev EndsBefore : Plan → List Picture → (old new : Picture) → (to : RunPlace) → Turn → Type 0
+EndsBefore plan ps old new to turn =
+    (end : RunEndsWith plan ps turn) × (new ≡ old) × StandsAtEnd plan ps to turn end
+
 -- What one more answer makes of a run whose settled states have these pictures: one state more, or
 -- the end; and the run then stands at the moment in which it came to that.
 abbrev pub Advances : Plan → List Picture → (old new : Picture) → (to : RunPlace) → Turn → Type 0
@@ -37,20 +42,13 @@ Advances plan ps old new to (Finished n) =
     (end : RunEndsWith plan (ps ++ new ∷ []) (Finished n)) × (new.state ≡ length ps)
     × StandsAtEnd plan (ps ++ new ∷ []) to (Finished n) end
 Advances plan ps old new to (Contradictory state clash) =
-    (end : RunEndsWith plan ps (Contradictory state clash)) × (new ≡ old)
-    × StandsAtEnd plan ps to (Contradictory state clash) end
+    EndsBefore plan ps old new to (Contradictory state clash)
 Advances plan ps old new to (Undetermined state cell) =
-    (end : RunEndsWith plan ps (Undetermined state cell)) × (new ≡ old)
-    × StandsAtEnd plan ps to (Undetermined state cell) end
-Advances plan ps old new to (StateLimit states) =
-    (end : RunEndsWith plan ps (StateLimit states)) × (new ≡ old)
-    × StandsAtEnd plan ps to (StateLimit states) end
+    EndsBefore plan ps old new to (Undetermined state cell)
+Advances plan ps old new to (StateLimit states) = EndsBefore plan ps old new to (StateLimit states)
 Advances plan ps old new to (InputMissing state port) =
-    (end : RunEndsWith plan ps (InputMissing state port)) × (new ≡ old)
-    × StandsAtEnd plan ps to (InputMissing state port) end
-Advances plan ps old new to (Over state limit) =
-    (end : RunEndsWith plan ps (Over state limit)) × (new ≡ old)
-    × StandsAtEnd plan ps to (Over state limit) end
+    EndsBefore plan ps old new to (InputMissing state port)
+Advances plan ps old new to (Over state limit) = EndsBefore plan ps old new to (Over state limit)
 
 -- A run begins with no settled state, and each answer for the next state advances it.
 pub record RunsAdvance (plan : Plan) : Type 0 where

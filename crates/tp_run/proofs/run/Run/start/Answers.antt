@@ -1,12 +1,9 @@
 use Rattle.std.proofs.Common.{◌≡◌, ap₂, sym, subst, arith, refl}
-use Rattle.tp_kernel.specs.Read.{formula_tree}
-use Rattle.tp_check.specs.Read.{program_tree}
+use Rattle.tp_check.specs.Program.{program_tree}
 use Rattle.tp_inputs.specs.Read.{inputs_of}
 use Rattle.tp_store.specs.Known.{Contents}
 use Rattle.tp_scene.specs.Scene.{Scene}
 use Rattle.tp_scene.specs.Pick.{Moment}
-use Rattle.tp_scene.specs.Beginning.{first_moment}
-use Rattle.tp_step.specs.Answers.{moment_of}
 use Rattle.tp_run.specs.States.{Plan, plan_with}
 use Rattle.tp_run.specs.Standing.{open_at}
 use Rattle.tp_run.specs.Meaning.{StandsForItsProgram}
@@ -15,13 +12,17 @@ use Rattle.tp_run.proofs.OneState.{first_orderly}
 use Rattle.tp_run.proofs.Becomes.{begins}
 use Rattle.tp_run.proofs.run.Run.start.Goals as goal
 
+-- a scene with a store
+abbrev moment : Scene → Contents → Moment
+moment scene store = record { scene = scene; store = store }
+
+same_moment : (s t : Scene) (k l : Contents) → s ≡ t → k ≡ l → moment s k ≡ moment t l
+same_moment s t k l = ap₂ moment
+
 pub returns-clause-plan : goal.returns-clause-plan
 returns-clause-plan c =
-    let names = c.args.program.globals in
-    let main = formula_tree c.args.program.main.value in
     let plan : Plan = plan_with (program_tree c.args.program) (inputs_of c.args.inputs) c.args.limits.states c.args.limits.reductions in
-    let make : Scene → Contents → Moment = λ s k. record { scene = s; store = k } in
-    let first : moment_of c.in_ok-scene.scene c.in_ok-store.store ≡ first_moment names main = ap₂ make c.in_ok-scene.ensures.scene c.in_ok-store.ensures in
+    let first = same_moment _ _ _ _ c.in_ok-scene.ensures.scene c.in_ok-store.ensures in
     record {
       program = refl;
       inputs = refl;
@@ -35,9 +36,6 @@ returns-clause-plan c =
 
 pub returns-clause-stands : goal.returns-clause-stands
 returns-clause-stands c =
-    let names = c.args.program.globals in
-    let main = formula_tree c.args.program.main.value in
     let plan : Plan = plan_with (program_tree c.args.program) (inputs_of c.args.inputs) c.args.limits.states c.args.limits.reductions in
-    let make : Scene → Contents → Moment = λ s k. record { scene = s; store = k } in
-    let first : moment_of c.in_ok-scene.scene c.in_ok-store.store ≡ first_moment names main = ap₂ make c.in_ok-scene.ensures.scene c.in_ok-store.ensures in
+    let first = same_moment _ _ _ _ c.in_ok-scene.ensures.scene c.in_ok-store.ensures in
     subst (λ (m : Moment). StandsForItsProgram plan (open_at m)) (sym first) (begins plan c.requires.fits)
