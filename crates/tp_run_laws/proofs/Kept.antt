@@ -14,7 +14,7 @@ use Rattle.tp_value.specs.declared.value.Shape.{Shape}
 use Rattle.tp_value.specs.declared.value.Shape.TheVariants.{Num, Truth, Items}
 use Rattle.tp_store.specs.Facts.{kept_shape, is_excluded, item_path, fact, facts_at, facts_of_items, same_path, same_shape, excludes, clash}
 use Rattle.tp_store.specs.Known.{NoClash, is_none, adds, new_facts, addition, Whole, known, open_at, absent, too_long, value, whole, deepest, limited, full}
-use Rattle.tp_store.specs.Entries.{AreOf}
+use Rattle.tp_store.specs.FactMap.{AreOf}
 use Rattle.tp_store.proofs.Paths.{same_path-refl, same_shape-decides}
 use Rattle.tp_store.proofs.Members.{In, in_append, in_filter, filter_in, kept_in, in_kept, NoClash-filter}
 use Rattle.tp_store.proofs.Adding.{AddsAll, adds_all}

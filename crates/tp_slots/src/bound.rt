@@ -4,7 +4,7 @@ ghost use Rattle.tp_kernel.specs.Read.{bindings_of};
 ghost use Rattle.tp_scene.specs.Scene as S;
 ghost use Rattle.tp_scene.specs.Pick.{HasAdded};
 ghost use Rattle.tp_decide.specs.declared.decision.Leaf.TheVariants as leaf;
-ghost use Rattle.tp_decide.specs.Read.{env_of, formula_of};
+ghost use Rattle.tp_decide.specs.ReadPhrase.{env_of, formula_of};
 ghost use Rattle.tp_slots.specs.Bound.{IsDueUnder, IsTakenOut, bound_last, slot_in, slot_with};
 ghost use Rattle.tp_slots.specs.Kept.{HasRoomFor, IsReducedTo, IsUnchanged, IsWellKept, Lives};
 ghost use Rattle.tp_slots.specs.News.{new_items};

@@ -8,7 +8,7 @@ use Rattle.tp_value.specs.declared.path.Path.{Path}
 use Rattle.tp_value.specs.declared.path.Fact.{Fact}
 use Rattle.tp_store.specs.Facts.{same_shape, has_item, clash, is_excluded}
 use Rattle.tp_store.specs.Known.{NoClash, addition, adds, first_clash}
-use Rattle.tp_store.specs.FactMap.{AreOf, AreOfKind, facts_among}
+use Rattle.tp_store.specs.FactMap.{AreOf, AreOfKind, facts_asked}
 use Rattle.tp_store.specs.declared.copies.Which.TheVariants.{Of}
 use Rattle.tp_store.specs.declared.nodes.Nodes.{Nodes}
 use Rattle.std.specs.Map.{values_of}
@@ -62,10 +62,10 @@ takes_all_of b t x facts tree d n none a =
     }) ∙ adds_to_none facts
 
 -- what clashes with a fact is of its variable
-pub first_of_variable : (fs : List Fact) (f : Fact) → NoClash fs → first_clash (facts_among (Of f.path.var.number) fs) f ≡ first_clash fs f
+pub first_of_variable : (fs : List Fact) (f : Fact) → NoClash fs → first_clash (facts_asked (Of f.path.var.number) fs) f ≡ first_clash fs f
 first_of_variable fs f n =
     let P : Fact → Bool = λ g. eqb g.path.var.number f.path.var.number in
-    sym (same_first fs (facts_among (Of f.path.var.number) fs) f n (record {
+    sym (same_first fs (facts_asked (Of f.path.var.number) fs) f n (record {
       there = λ g e i. filter_in P g fs i (eq-eqb _ _ (ap (λ (x : VarId). x.number) e));
       back = λ g e i. (in_filter P g fs i).0;
     }))

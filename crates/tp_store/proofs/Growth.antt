@@ -11,7 +11,7 @@ use Rattle.tp_store.specs.declared.nodes.Nodes.{Nodes}
 use Rattle.tp_store.specs.Facts.{kept_shape}
 use Rattle.tp_store.specs.Known.{NoClash, deepest}
 use Rattle.tp_store.specs.Changes.{HaveSameShapes}
-use Rattle.tp_store.specs.Nodes.{bare_node, edge, same_edge, edges_in, nodes_in, child, routes, IsRooted, facts_along, shape_among, beyond_among, with_node, AreBeyond, AreNarrow, ArePlaces, IsTree, HasMoreNodes, KeepsAll, IsRaised}
+use Rattle.tp_store.specs.Nodes.{bare_node, edge, same_edge, edges_in, nodes_in, child, routes, IsRooted, facts_along, shape_among, beyond_among, with_node, AreBeyond, AreNarrow, StandAtNumbers, IsTree, HasMoreNodes, KeepsAll, IsRaised}
 use Rattle.tp_store.proofs.Members.{In, in_kept}
 use Rattle.tp_store.proofs.Same.{kept_depth}
 use Rattle.tp_store.proofs.Routes.{rooted_more, child_there, child_found, length_more}
@@ -57,7 +57,7 @@ module _ (mid new : Nodes) (entries : new.below.entries ≡ mid.below.entries)
       let R : List Edge → Type 0 = λ es. IsRooted 1 es × AreNarrow es in
       let B : List Edge → Type 0 = λ es. AreBeyond es (nodes_in new) in
       let N : List Node → Type 0 = λ ns. AreBeyond (edges_in mid) ns in
-      let P : List Edge → Type 0 = λ es. ArePlaces es new.places.items in
+      let P : List Edge → Type 0 = λ es. StandAtNumbers es new.places.items in
       let edges = subst R (sym moved_edges) (t.rooted, t.narrow) in
       record {
         rooted = edges.0;
@@ -85,7 +85,7 @@ grown_long mid fs node index none e =
 -- a child that wasn't there
 module _ (mid new : Nodes) (node index : ℕ) (t : IsTree mid) (low : node < length (nodes_in mid)) (none : child (edges_in mid) node index ≡ None)
     (narrow : 0 < node → index < 2 ^ 32) (bound : 0 < node → index < beyond_among (nodes_in mid) node)
-    (placed : ArePlaces (edges_in mid ++ edge node index ∷ []) new.places.items)
+    (placed : StandAtNumbers (edges_in mid ++ edge node index ∷ []) new.places.items)
     (entries : new.below.entries ≡ insert_entry same_edge mid.below.entries (edge node index) bare_node) where
   last : new.below.entries ≡ mid.below.entries ++ (edge node index, bare_node) ∷ []
   last = entry_last mid.below.entries new.below.entries node index bare_node none entries
@@ -101,7 +101,7 @@ module _ (mid new : Nodes) (node index : ℕ) (t : IsTree mid) (low : node < len
       let R : List Edge → Type 0 = λ es. IsRooted 1 es × AreNarrow es in
       let B : List Edge → Type 0 = λ es. AreBeyond es (nodes_in new) in
       let N : List Node → Type 0 = λ ns. AreBeyond (edges_in mid ++ edge node index ∷ []) ns in
-      let P : List Edge → Type 0 = λ es. ArePlaces es new.places.items in
+      let P : List Edge → Type 0 = λ es. StandAtNumbers es new.places.items in
       let long = length_nodes mid in
       let edges = subst R (sym new_edges) (
         rooted_more 1 (edges_in mid) (edge node index) t.rooted (omega (arith, low, long)),
@@ -147,8 +147,8 @@ module _ (old new : Nodes) (node : ℕ) (v : Node) (t : IsTree old) (edges : edg
       let R : List Edge → Type 0 = λ es. IsRooted 1 es × AreNarrow es in
       let B : List Edge → Type 0 = λ es. AreBeyond es (nodes_in new) in
       let N : List Node → Type 0 = λ ns. AreBeyond (edges_in old) ns in
-      let P : List Edge → Type 0 = λ es. ArePlaces es new.places.items in
-      let Q : List ℕ → Type 0 = λ ps. ArePlaces (edges_in old) ps in
+      let P : List Edge → Type 0 = λ es. StandAtNumbers es new.places.items in
+      let Q : List ℕ → Type 0 = λ ps. StandAtNumbers (edges_in old) ps in
       let all = subst R (sym edges) (t.rooted, t.narrow) in
       record {
         rooted = all.0;
@@ -195,7 +195,7 @@ deepest_same fs gs n m s =
     omega (arith, a, b)
 
 -- one edge more: to an item, which has no place among the variables
-pub placed_item : (es : List Edge) (e : Edge) (places : List ℕ) → 0 < e.node → ArePlaces es places → ArePlaces (es ++ e ∷ []) places
+pub placed_item : (es : List Edge) (e : Edge) (places : List ℕ) → 0 < e.node → StandAtNumbers es places → StandAtNumbers (es ++ e ∷ []) places
 placed_item es e places low h i f q z = by (slice_get es i) refl
   where
     by : (o : Option Edge) → slice_get es i ≡ o → slice_get places f.index ≡ Some i
@@ -209,8 +209,8 @@ placed_item es e places low h i f q z = by (slice_get es i) refl
         h i f (p ∙ n) z
 
 -- or to a variable, whose place is written
-pub placed_root : (es : List Edge) (n : ℕ) (places : List ℕ) → n < length places → child es 0 n ≡ None → IsDistinct same_edge es → ArePlaces es places
-    → ArePlaces (es ++ edge 0 n ∷ []) (set places n (length es))
+pub placed_root : (es : List Edge) (n : ℕ) (places : List ℕ) → n < length places → child es 0 n ≡ None → IsDistinct same_edge es → StandAtNumbers es places
+    → StandAtNumbers (es ++ edge 0 n ∷ []) (set places n (length es))
 placed_root es n places low none d h i f q z = by (slice_get es i) refl
   where
     by : (o : Option Edge) → slice_get es i ≡ o → slice_get (set places n (length es)) f.index ≡ Some i
@@ -233,7 +233,7 @@ placed_root es n places low none d h i f q z = by (slice_get es i) refl
         set_other places n f.index (length es) other ∙ h i f there z
 
 -- where no edge stands at a variable's place, it has no node
-pub no_root : (es : List Edge) (places : List ℕ) (n : ℕ) → ArePlaces es places → ((i : ℕ) → slice_get places n ≡ Some i → slice_get es i ≡ Some (edge 0 n) → ⊥) → child es 0 n ≡ None
+pub no_root : (es : List Edge) (places : List ℕ) (n : ℕ) → StandAtNumbers es places → ((i : ℕ) → slice_get places n ≡ Some i → slice_get es i ≡ Some (edge 0 n) → ⊥) → child es 0 n ≡ None
 no_root es places n h none = by (child es 0 n) refl
   where
     by : (o : Option ℕ) → child es 0 n ≡ o → o ≡ None

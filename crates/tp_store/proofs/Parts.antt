@@ -9,8 +9,8 @@ use Rattle.tp_value.specs.declared.path.Path.{Path}
 use Rattle.tp_value.specs.declared.path.Fact.{Fact}
 use Rattle.tp_store.specs.Facts.{same_path, clash, kept_shape, is_excluded, fact}
 use Rattle.tp_store.specs.Known.{Contents, NoClash, Variable, IsVariableOf, AreOfVariables, lasting_facts, facts_below, full, addition, adds, new_store, global_variable}
-use Rattle.tp_store.specs.Entries.{variable_in, variables_in, contents_of, part_of, IsPart, AreParts}
-use Rattle.tp_store.specs.FactMap.{AreOf, AreOfKind, FactsOfKind, facts_among}
+use Rattle.tp_store.specs.Entries.{variable_in, variables_in, contents_of, part_by_kind, IsPart, AreParts}
+use Rattle.tp_store.specs.FactMap.{AreOf, AreOfKind, FactsOfKind, facts_asked}
 use Rattle.tp_store.specs.declared.copies.Which.TheVariants.{Below}
 use Rattle.tp_store.specs.declared.entry.Entry.{Entry}
 use Rattle.tp_store.specs.Changes.{IsSoundStore, HaveSameShapes, AddsFacts, HasAppended}
@@ -65,12 +65,12 @@ module _ (m n : FactsOfKind) (p : IsPart false m) (q : IsPart true n) where
   pub parts_apart : NoClash (m.facts ++ n.facts)
   parts_apart = NoClash-append m.facts n.facts p.apart q.apart (λ f g i j. other_kinds f g (kind_in false m.facts p.of_kind f i) (kind_in true n.facts q.of_kind g j))
 
-  pub part_apart : (b : Bool) → NoClash (part_of b m n).facts
+  pub part_apart : (b : Bool) → NoClash (part_by_kind b m n).facts
   part_apart true = q.apart
   part_apart false = p.apart
 
   -- the facts of a variable are all in the part of its kind
-  pub part_agrees : (b : Bool) (x : VarId) → x.lasting ≡ b → AgreeAt x (m.facts ++ n.facts) (part_of b m n).facts
+  pub part_agrees : (b : Bool) (x : VarId) → x.lasting ≡ b → AgreeAt x (m.facts ++ n.facts) (part_by_kind b m n).facts
   part_agrees false x v = record {
     there = λ f e i.
         elim (in_append f m.facts n.facts i) [
@@ -106,29 +106,29 @@ module _ (es : List Entry) (m n : FactsOfKind) (v : Contents) (e : contents_of e
   pub sound_view : IsSoundStore v
   sound_view = let P : Contents → Type 0 = λ s. IsSoundStore s in subst P e (sound es m n h)
 
-  pub kept_view : (p : Path) → kept_shape (part_of p.var.lasting m n).facts p ≡ kept_shape v.facts p
+  pub kept_view : (p : Path) → kept_shape (part_by_kind p.var.lasting m n).facts p ≡ kept_shape v.facts p
   kept_view p =
-      sym (same_kept (m.facts ++ n.facts) (part_of p.var.lasting m n).facts p (part_apart m n h.state_facts h.static_facts p.var.lasting) (part_agrees m n h.state_facts h.static_facts p.var.lasting p.var refl))
+      sym (same_kept (m.facts ++ n.facts) (part_by_kind p.var.lasting m n).facts p (part_apart m n h.state_facts h.static_facts p.var.lasting) (part_agrees m n h.state_facts h.static_facts p.var.lasting p.var refl))
       ∙ ap (λ (s : Contents). kept_shape s.facts p) e
 
-  pub excluded_view : (p : Path) → is_excluded (part_of p.var.lasting m n).facts p ≡ is_excluded v.facts p
+  pub excluded_view : (p : Path) → is_excluded (part_by_kind p.var.lasting m n).facts p ≡ is_excluded v.facts p
   excluded_view p =
-      sym (same_excluded (m.facts ++ n.facts) (part_of p.var.lasting m n).facts p (part_agrees m n h.state_facts h.static_facts p.var.lasting p.var refl)) ∙ ap (λ (s : Contents). is_excluded s.facts p) e
+      sym (same_excluded (m.facts ++ n.facts) (part_by_kind p.var.lasting m n).facts p (part_agrees m n h.state_facts h.static_facts p.var.lasting p.var refl)) ∙ ap (λ (s : Contents). is_excluded s.facts p) e
 
-  pub full_view : (p : Path) → full (part_of p.var.lasting m n).facts p ≡ full v.facts p
+  pub full_view : (p : Path) → full (part_by_kind p.var.lasting m n).facts p ≡ full v.facts p
   full_view p =
-      sym (same_full (m.facts ++ n.facts) (part_of p.var.lasting m n).facts p (part_apart m n h.state_facts h.static_facts p.var.lasting) (part_agrees m n h.state_facts h.static_facts p.var.lasting p.var refl))
+      sym (same_full (m.facts ++ n.facts) (part_by_kind p.var.lasting m n).facts p (part_apart m n h.state_facts h.static_facts p.var.lasting) (part_agrees m n h.state_facts h.static_facts p.var.lasting p.var refl))
       ∙ ap (λ (s : Contents). full s.facts p) e
 
-  pub addition_view : (b : Bool) (x : VarId) (fs : List Fact) → x.lasting ≡ b → AreOf x fs → addition (part_of b m n).facts fs ≡ addition v.facts fs
+  pub addition_view : (b : Bool) (x : VarId) (fs : List Fact) → x.lasting ≡ b → AreOf x fs → addition (part_by_kind b m n).facts fs ≡ addition v.facts fs
   addition_view b x fs k a =
-      let A : VarId → Type 0 = λ y. AgreeAt y (m.facts ++ n.facts) (part_of b m n).facts in
-      sym (same_addition (m.facts ++ n.facts) (part_of b m n).facts fs (parts_apart m n h.state_facts h.static_facts) (part_apart m n h.state_facts h.static_facts b)
+      let A : VarId → Type 0 = λ y. AgreeAt y (m.facts ++ n.facts) (part_by_kind b m n).facts in
+      sym (same_addition (m.facts ++ n.facts) (part_by_kind b m n).facts fs (parts_apart m n h.state_facts h.static_facts) (part_apart m n h.state_facts h.static_facts b)
       (λ f i. subst A (sym (of_in x fs a f i)) (part_agrees m n h.state_facts h.static_facts b x k)))
       ∙ ap (λ (s : Contents). addition s.facts fs) e
 
   -- what is below a number, appended
-  pub appended_is : (b : ℕ) (fs old new : List Fact) → fs ≡ facts_among (Below b) m.facts ++ facts_among (Below b) n.facts → new ≡ old ++ fs → HasAppended (facts_below b v.facts) old new
+  pub appended_is : (b : ℕ) (fs old new : List Fact) → fs ≡ facts_asked (Below b) m.facts ++ facts_asked (Below b) n.facts → new ≡ old ++ fs → HasAppended (facts_below b v.facts) old new
   appended_is b fs old new q l =
       let same : fs ≡ facts_below b v.facts = q ∙ sym (filter-append (λ (f : Fact). nat_lt f.path.var.number b) m.facts n.facts) ∙ ap (λ (s : Contents). facts_below b s.facts) e in
       let P : List Fact → Type 0 = λ xs. NoClash xs in

@@ -8,7 +8,7 @@ use Rattle.tp_value.specs.declared.path.Path.{Path}
 use Rattle.tp_value.specs.declared.path.Fact.{Fact}
 use Rattle.tp_store.specs.Facts.{same_path, clash, kept_shape, fact}
 use Rattle.tp_store.specs.Known.{NoClash, clashes_with_some}
-use Rattle.tp_store.specs.FactMap.{is_among, facts_among}
+use Rattle.tp_store.specs.FactMap.{is_among, facts_asked}
 use Rattle.tp_store.specs.declared.copies.Which.{Which}
 use Rattle.tp_store.specs.declared.nodes.Edge.{Edge}
 use Rattle.tp_store.specs.declared.nodes.Node.{Node}
@@ -260,9 +260,9 @@ facts_end b (r ∷ rs) (n ∷ ns) (suc i) l = facts_end b rs ns i (omega arith)
 
 -- a fact that is asked for, and one that isn't
 pub asked_for : (which : Which) (b : Bool) (r : List ℕ) (sh : Shape) (fs : List Fact) → is_among which (path_of b r).var.number ≡ true
-    → facts_among which (fact_where b r (Some sh) ++ fs) ≡ fact (path_of b r) sh ∷ facts_among which fs
-asked_for which b r sh fs h = ap (λ t. cond t (fact (path_of b r) sh ∷ facts_among which fs) (facts_among which fs)) h
+    → facts_asked which (fact_where b r (Some sh) ++ fs) ≡ fact (path_of b r) sh ∷ facts_asked which fs
+asked_for which b r sh fs h = ap (λ t. cond t (fact (path_of b r) sh ∷ facts_asked which fs) (facts_asked which fs)) h
 
 pub not_asked_for : (which : Which) (b : Bool) (r : List ℕ) (sh : Shape) (fs : List Fact) → is_among which (path_of b r).var.number ≡ false
-    → facts_among which (fact_where b r (Some sh) ++ fs) ≡ facts_among which fs
-not_asked_for which b r sh fs h = ap (λ t. cond t (fact (path_of b r) sh ∷ facts_among which fs) (facts_among which fs)) h
+    → facts_asked which (fact_where b r (Some sh) ++ fs) ≡ facts_asked which fs
+not_asked_for which b r sh fs h = ap (λ t. cond t (fact (path_of b r) sh ∷ facts_asked which fs) (facts_asked which fs)) h

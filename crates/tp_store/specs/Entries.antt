@@ -25,5 +25,5 @@ pub record AreParts (es : List Entry) (state static : FactsOfKind) : Type 0 wher
   pub static_facts : IsPart true static
   pub of_variables : AreOfVariables (variables_in es) (state.facts ++ static.facts)
 
-abbrev pub part_of : (lasting : Bool) → (state static : FactsOfKind) → FactsOfKind
-part_of b m n = if b then n else m
+abbrev pub part_by_kind : (lasting : Bool) → (state static : FactsOfKind) → FactsOfKind
+part_by_kind b m n = if b then n else m

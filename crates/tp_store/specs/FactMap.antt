@@ -51,5 +51,5 @@ abbrev pub is_among : Which → ℕ → Bool
 is_among (Below n) k = nat_lt k n
 is_among (Of n) k = eqb k n
 
-abbrev pub facts_among : Which → List Fact → List Fact
-facts_among which = filter (λ f. is_among which f.path.var.number)
+abbrev pub facts_asked : Which → List Fact → List Fact
+facts_asked which = filter (λ f. is_among which f.path.var.number)

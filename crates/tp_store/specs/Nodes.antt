@@ -131,14 +131,14 @@ AreBeyond es ns =
     (i : ℕ) (e : Edge) → slice_get es i ≡ Some e → 0 < e.node → e.index < beyond_among ns e.node
 
 -- the place of each edge to a variable's node stands at the variable's number
-abbrev pub ArePlaces : List Edge → List ℕ → Type 0
-ArePlaces es places =
+abbrev pub StandAtNumbers : List Edge → List ℕ → Type 0
+StandAtNumbers es places =
     (i : ℕ) (e : Edge) → slice_get es i ≡ Some e → e.node ≡ 0 → slice_get places e.index ≡ Some i
 
 -- The nodes are a tree, with bounds of their children, and those of variables are found by number.
 pub record IsTree (t : Nodes) : Type 0 where
   pub rooted : IsRooted 1 (edges_in t)
-  pub placed : ArePlaces (edges_in t) t.places.items
+  pub placed : StandAtNumbers (edges_in t) t.places.items
   pub narrow : AreNarrow (edges_in t)
   pub beyond : AreBeyond (edges_in t) (nodes_in t)
 

@@ -1,6 +1,6 @@
 // Equal facts to those of a tree, of the variables that are asked for.
 ghost use Rattle.std.specs.Prelude.{◌≡◌, ◌++◌, OnOk};
-ghost use Rattle.tp_store.specs.FactMap.{is_among, facts_among};
+ghost use Rattle.tp_store.specs.FactMap.{is_among, facts_asked};
 ghost use Rattle.tp_store.specs.Nodes.{facts_in_tree, IsTree};
 
 use crate::nodes::Nodes;
@@ -36,7 +36,7 @@ pub fn copy_facts(
 ) -> Result<(), NoMemory>
     requires { IsTree nodes.now }
     ensures { OnOk result (facts.new.items
-        ≡ facts.old.items ++ facts_among which (facts_in_tree lasting nodes.now)) }
+        ≡ facts.old.items ++ facts_asked which (facts_in_tree lasting nodes.now)) }
 {
     for number in 0..nodes.count() {
         let number = number as u64 + 1;

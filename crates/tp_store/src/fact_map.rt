@@ -5,7 +5,7 @@ ghost use Rattle.std.specs.Option.{option_copied};
 ghost use Rattle.tp_store.specs.Facts.{kept_shape, is_excluded, has_item, item_path};
 ghost use Rattle.tp_store.specs.Known.{NoClash, addition, adds, deepest, first_clash, full, new_facts, open_at, value, whole};
 ghost use Rattle.tp_store.specs.Changes.{HaveSameShapes};
-ghost use Rattle.tp_store.specs.FactMap.{facts_among, AreOf, AreOfKind, IsNewFact, IsNumberOrTruth};
+ghost use Rattle.tp_store.specs.FactMap.{facts_asked, AreOf, AreOfKind, IsNewFact, IsNumberOrTruth};
 ghost use Rattle.tp_store.specs.Nodes.{edges_in, node_from, facts_in_tree, item_shape, path_along, way_of, IsTree, ArePlainItems, LacksShape};
 ghost use Rattle.tp_store.specs.KeptValue.{CountsPlain, IsSaidWith, Replaces};
 ghost use Rattle.tp_value.specs.Read.{tree};
@@ -386,7 +386,7 @@ impl FactMap {
         facts: &mut Vec<Fact>,
     ) -> Result<(), NoMemory>
         ensures { OnOk result
-            (facts.new.items ≡ facts.old.items ++ facts_among which self.now.facts) }
+            (facts.new.items ≡ facts.old.items ++ facts_asked which self.now.facts) }
     {
         copy_facts(alloc, self.lasting, &self.nodes, which, facts)
     }

@@ -4,7 +4,7 @@ ghost use Rattle.std.specs.Option.{option_copied};
 ghost use Rattle.tp_store.specs.Facts.{kept_shape, is_excluded};
 ghost use Rattle.tp_store.specs.Known.{new_store, name_of, lasting_facts, facts_below};
 ghost use Rattle.tp_store.specs.Changes.{IsSoundStore, HaveSameShapes, HasAppended};
-ghost use Rattle.tp_store.specs.Entries.{part_of};
+ghost use Rattle.tp_store.specs.Entries.{part_by_kind};
 
 use crate::copies::Which;
 use crate::entry::{Entry, global_entries, name_of};
@@ -40,7 +40,7 @@ impl Model for Store {
 
 /// The facts of static variables, or of state variables.
 pub fn part<'a>(state: &'a FactMap, fixed: &'a FactMap, lasting: bool) -> &'a FactMap
-    ensures { result.now ≡ part_of lasting state.now fixed.now }
+    ensures { result.now ≡ part_by_kind lasting state.now fixed.now }
 {
     if lasting { fixed } else { state }
 }

@@ -1,5 +1,5 @@
 use Rattle.std.proofs.Common.{◌≡◌, ap₂, sym, subst, arith, refl}
-use Rattle.tp_check.specs.Program.{program_tree}
+use Rattle.tp_check.specs.Read.{program_tree}
 use Rattle.tp_inputs.specs.Read.{inputs_of}
 use Rattle.tp_store.specs.Known.{Contents}
 use Rattle.tp_scene.specs.Scene.{Scene}

@@ -2,7 +2,7 @@ use Rattle.std.proofs.Common.{◌≡◌, ◌++◌, [], ap, sym, ◌∙◌, List}
 use Rattle.std.proofs.lemmas.List.{nil_from_length}
 use Rattle.std.proofs.lemmas.Bool.Decides.{Decides-eqb}
 use Rattle.tp_value.specs.declared.path.Fact.{Fact}
-use Rattle.tp_store.specs.FactMap.{facts_among}
+use Rattle.tp_store.specs.FactMap.{facts_asked}
 use Rattle.tp_store.specs.declared.copies.Which.TheVariants.{Below}
 use Rattle.tp_store.proofs.Parts.{sound_view, appended_is}
 use Rattle.tp_store.proofs.store.Store.facts.Goals as goal
@@ -24,7 +24,7 @@ returns-clause-sound c = sound_view c.self.inside.entries.items c.self.inside.st
 
 pub returns-then-is_empty-clause-ok : goal.returns-then-is_empty-clause-ok
 returns-then-is_empty-clause-ok c =
-    let among = facts_among (Below c.args.below) in
+    let among = facts_asked (Below c.args.below) in
     let copies = c.copy_to-2.new.facts.items in
     let both = c.in_ok-copy_to-2.ensures
     ∙ ap (λ (xs : List Fact). xs ++ among c.self.inside.fixed.facts) (c.in_ok-copy_to.ensures ∙ ap (λ (xs : List Fact). xs ++ among c.self.inside.state.facts) c.new-copies.ensures.items) in
@@ -34,7 +34,7 @@ returns-then-is_empty-clause-ok c =
 
 pub returns-clause-ok : goal.returns-clause-ok
 returns-clause-ok c =
-    let among = facts_among (Below c.args.below) in
+    let among = facts_asked (Below c.args.below) in
     let copies = c.copy_to-2.new.facts.items in
     let both = c.in_ok-copy_to-2.ensures
     ∙ ap (λ (xs : List Fact). xs ++ among c.self.inside.fixed.facts) (c.in_ok-copy_to.ensures ∙ ap (λ (xs : List Fact). xs ++ among c.self.inside.state.facts) c.new-copies.ensures.items) in
