@@ -217,7 +217,8 @@ fn may_clash_in(nodes: &Nodes, fact: &Fact) -> bool
 fn is_new_in(nodes: &Nodes, fact: &Fact) -> bool
     requires tree { IsTree nodes.now }
     requires no_clash { NoClash (facts_in_tree fact.now.path.var.lasting nodes.now) }
-    ensures { IsTrue result → IsNewFact (facts_in_tree fact.now.path.var.lasting nodes.now) fact.now }
+    ensures { IsTrue result
+        → IsNewFact (facts_in_tree fact.now.path.var.lasting nodes.now) fact.now }
 {
     let _count = nodes.count();
     match nodes.find(&fact.path) {

@@ -69,8 +69,8 @@ fn items_at(
     count: u32,
     deeper: u64,
 ) -> Result<Found, NoMemory>
-    ensures { IfOk result (λ found.
-        whole_of found ≡ list_of_items (items_known (whole deeper facts.now.facts) path.now count 0)) }
+    ensures { IfOk result (λ found. whole_of found
+        ≡ list_of_items (items_known (whole deeper facts.now.facts) path.now count 0)) }
 {
     let mut items = Vec::new(alloc);
     let mut inner = item_path(path, 0)?;
