@@ -14,9 +14,9 @@ use crate::expr::append_operator;
 use crate::formula::{append_formula, formula_level};
 use crate::words::{Bound, Words};
 use std::alloc::Global;
-use tp_decide::Phrase;
+use tp_decide::{Leaf, Phrase};
 use tp_kernel::Defs;
-use tp_slots::{Scene, What};
+use tp_slots::{Holder, Scene, What};
 use tp_store::Store;
 use tp_tree::Op;
 use tp_tree::level::{AND, CHOP, NOT, left_level, right_level};
@@ -43,9 +43,7 @@ fn push_standing(scene: &Scene, item: u64, out: &mut Vec<u64>) -> Result<(), NoM
                 push_standing(scene, *first + i, out)?;
             }
         }
-        What::Do(_) | What::Later(_) | What::Shown(_) | What::Closed(_) => out.push(item)?,
-        What::Split { .. } | What::SplitProject { .. } => out.push(item)?,
-        What::Opened { .. } | What::Running { .. } => out.push(item)?,
+        What::Leaf(_) | What::Holder(_) => out.push(item)?,
     }
     Ok(())
 }
@@ -69,10 +67,11 @@ fn item_level(scene: &Scene, item: u64) -> u8
     ensures { result ≡ item_level_in scene.now item }
 {
     match &scene.slots[item as usize].what {
-        What::Do(phrase) => formula_level(&phrase.what),
-        What::Split { .. } | What::SplitProject { .. } => CHOP,
-        What::Later(_) | What::Shown(_) | What::Closed(_) | What::Opened { .. } => 0,
-        What::Running { .. } | What::Gone { .. } => 0,
+        What::Leaf(Leaf::Do(phrase)) => formula_level(&phrase.what),
+        What::Leaf(Leaf::Later(_) | Leaf::Shown(_)) => 0,
+        What::Holder(Holder::Split { .. } | Holder::SplitProject { .. }) => CHOP,
+        What::Holder(Holder::Closed(_) | Holder::Opened { .. } | Holder::Running { .. }) => 0,
+        What::Gone { .. } => 0,
     }
 }
 
@@ -210,21 +209,22 @@ fn append_item(out: &mut Text, residue: &Residue, item: u64) -> Result<(), NoMem
     ensures { OnOk result (out.new ≡ out.old ++ item_spelling residue.now item) }
 {
     match &residue.scene.slots[item as usize].what {
-        What::Do(phrase) => append_whole(out, residue, phrase),
-        What::Split { left, after } => {
+        What::Leaf(Leaf::Do(phrase)) => append_whole(out, residue, phrase),
+        What::Leaf(Leaf::Later(_) | Leaf::Shown(_)) => Ok(()),
+        What::Holder(Holder::Split { left, after }) => {
             append_region(out, residue, *left, left_level(Op::Chop))?;
             append_operator(out, Op::Chop)?;
             append_phrase(out, residue, after, right_level(Op::Chop))
         }
-        What::SplitProject { left, outer, piece } => {
+        What::Holder(Holder::SplitProject { left, outer, piece }) => {
             append_region(out, residue, *left, left_level(Op::Chop))?;
             append_operator(out, Op::Chop)?;
             append_phrase(out, residue, piece, left_level(Op::Proj))?;
             append_operator(out, Op::Proj)?;
             append_region(out, residue, *outer, right_level(Op::Proj))
         }
-        What::Later(_) | What::Shown(_) | What::Closed(_) | What::Opened { .. } => Ok(()),
-        What::Running { .. } | What::Gone { .. } => Ok(()),
+        What::Holder(Holder::Closed(_) | Holder::Opened { .. } | Holder::Running { .. }) => Ok(()),
+        What::Gone { .. } => Ok(()),
     }
 }
 
