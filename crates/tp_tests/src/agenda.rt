@@ -27,21 +27,21 @@ use tp_step::{
 use tp_store::Store;
 use tp_value::{Fact, Facts, NoMemory};
 
-// How a state is closed.
+/// How a state is closed.
 #[derive(Clone, Copy)]
-enum Closing {
+pub enum Closing {
     ByPasses,
     ByAgenda,
 }
 
-// What a closed state has come to: how the closure ended, what it did, the scene's own state, and what is known of the globals.
+/// What a closed state has come to: how the closure ended, what it did, the scene's own state, and what is known of the globals.
 #[derive(Drop)]
-struct ClosedState {
-    ending: Ending,
-    tally: Tally,
-    settled: Settled,
-    root: Option<Mark>,
-    facts: Facts,
+pub struct ClosedState {
+    pub ending: Ending,
+    pub tally: Tally,
+    pub settled: Settled,
+    pub root: Option<Mark>,
+    pub facts: Facts,
 }
 
 // Closes the state by one of both.
@@ -109,8 +109,8 @@ fn closed_state<L: Ledger>(
     })
 }
 
-// The same of a source and the text of a table, by steps that count their tries by themselves.
-fn closed_source(
+/// The same of a source and the text of a table, by steps that count their tries by themselves.
+pub fn closed_source(
     alloc: Global,
     source: &str,
     table: &str,

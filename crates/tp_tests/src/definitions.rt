@@ -62,14 +62,9 @@ fn definitions(alloc: Global) -> Result<Defs, Fail> {
     Ok(Defs { items })
 }
 
-fn expect(
-    rt: &(impl Abort + AllocGlobal),
-    e: &Expr,
-    expected: &str,
-    row: &str,
-) -> Result<(), Fail> {
+fn expect(rt: &(impl Abort + AllocGlobal), e: &Expr, value: &str, row: &str) -> Result<(), Fail> {
     let defs = definitions(rt.alloc())?;
-    expect_value(rt, e, defs, expected, row)
+    expect_value(rt, e, defs, value, row)
 }
 
 // Calls: `g` of the first definition, and so on to `o`; `p` and `q` of the second with none and with two arguments, `r` of one that isn't there.

@@ -23,14 +23,11 @@ fn no_inputs_have_no_values(rt: HostRuntime) -> Result<(), Fail> {
     Ok(())
 }
 
-// The value of the port in the state, as it is written, or `none`.
-fn expect_value(
-    rt: &(impl Abort + AllocGlobal),
-    text: &str,
-    state: u64,
-    port: &str,
-    canonical: &str,
-) -> Result<(), Fail> {
+// A text, a state, a port, and its value as it is written, or `none`.
+type Row = (&'static str, u64, &'static str, &'static str);
+
+fn expect_value(rt: &(impl Abort + AllocGlobal), row: Row) -> Result<(), Fail> {
+    let (text, state, port, canonical) = row;
     let inputs = read_table(rt.alloc(), text)?;
     let port = Text::from_slice(rt.alloc(), port.as_bytes())?;
     let mut out = Text::new(rt.alloc());
@@ -42,8 +39,7 @@ fn expect_value(
     Ok(())
 }
 
-// A text, a state, a port, and its value as it is written.
-const TABLES: [(&str, u64, &str, &str); 20] = [
+const TABLES: [Row; 20] = [
     ("", 0, "p", "none"),
     ("p=1", 0, "p", "1"),
     ("p=1\n", 0, "p", "1"),
@@ -78,8 +74,8 @@ const TABLES: [(&str, u64, &str, &str); 20] = [
 
 #[test]
 fn texts_are_tables(rt: HostRuntime) -> Result<(), Fail> {
-    for (text, state, port, canonical) in TABLES {
-        expect_value(&rt, text, state, port, canonical)?;
+    for row in TABLES {
+        expect_value(&rt, row)?;
     }
     Ok(())
 }

@@ -104,41 +104,33 @@ run 1 gets 2. => NotPlace { at: 4 }
 define f(x) = x=1. run f(1). => NotExecutable { at: 0 }
 ";
 
-fn expect(
-    rt: &(impl Abort + AllocGlobal),
-    formula: &str,
-    trace: &str,
-    expected: &str,
-) -> Result<(), Fail> {
-    let found = outcome(rt.alloc(), formula, trace)?;
-    same_text(rt, found.as_str(), expected, formula);
+// Expects the verdict of each row, or why there is none, by this trace.
+fn expect_each(rt: &(impl Abort + AllocGlobal), table: &str, trace: &str) -> Result<(), Fail> {
+    for row in table.trim().lines() {
+        let (formula, expected) = cut(row, "=>")?;
+        let found = outcome(rt.alloc(), formula, trace)?;
+        same_text(rt, found.as_str(), expected, formula);
+    }
     Ok(())
 }
 
 #[test]
 fn formulas_are_judged_on_a_counter(rt: HostRuntime) -> Result<(), Fail> {
-    for row in ON_COUNTER.trim().lines() {
-        let (formula, expected) = cut(row, "=>")?;
-        expect(&rt, formula, COUNTER, expected)?;
-    }
-    Ok(())
+    expect_each(&rt, ON_COUNTER, COUNTER)
+}
+
+#[test]
+fn other_sources_are_refused(rt: HostRuntime) -> Result<(), Fail> {
+    expect_each(&rt, REFUSED, COUNTER)
 }
 
 #[test]
 fn formulas_are_judged_on_traces(rt: HostRuntime) -> Result<(), Fail> {
     for row in ON_OTHERS.trim().lines() {
-        let (row, expected) = cut(row, "=>")?;
-        let (formula, trace) = cut(row, " on ")?;
-        expect(&rt, formula, trace, expected)?;
-    }
-    Ok(())
-}
-
-#[test]
-fn other_sources_are_refused(rt: HostRuntime) -> Result<(), Fail> {
-    for row in REFUSED.trim().lines() {
-        let (formula, expected) = cut(row, "=>")?;
-        expect(&rt, formula, COUNTER, expected)?;
+        let (formula, row) = cut(row, " on ")?;
+        let (trace, expected) = cut(row, "=>")?;
+        let found = outcome(rt.alloc(), formula, trace)?;
+        same_text(&rt, found.as_str(), expected, formula);
     }
     Ok(())
 }
@@ -151,11 +143,10 @@ fn counted(alloc: Global, states: u32) -> Result<String, NoMemory> {
 #[test]
 fn traces_have_at_most_400_states(rt: HostRuntime) -> Result<(), Fail> {
     let alloc = rt.alloc();
-    expect(&rt, "run A gets A+1.", counted(alloc, 400)?.as_str(), "Yes")?;
-    expect(
-        &rt,
-        "run A gets A+1.",
-        counted(alloc, 401)?.as_str(),
-        "TraceTooLong",
-    )
+    for (states, expected) in [(400, "Yes"), (401, "TraceTooLong")] {
+        let trace = counted(alloc, states)?;
+        let found = outcome(alloc, "run A gets A+1.", trace.as_str())?;
+        same_text(&rt, found.as_str(), expected, "a counter");
+    }
+    Ok(())
 }

@@ -1,48 +1,8 @@
 // Closures by passes in each order: what is picked in a state.
-ghost use Rattle.std.specs.Prelude.{◌≡◌, ◌<◌};
-ghost use Rattle.tp_meaning.specs.Fits.{ProgramFits};
-ghost use Rattle.tp_check.specs.Read.{program_tree};
-
+use crate::agenda::{Closing, closed_source};
 use crate::expected::same_text;
-use crate::making::nothing_told;
-use crate::sources::program_of;
-use crate::steps::begin;
-use std::alloc::Global;
-use std::marker::Brand;
-use std::sync::ledger::{Blank, Ledger};
 use std::test::Fail;
-use tp_check::Program;
-use tp_inputs::Inputs;
-use tp_pass::close_by_passes;
-use tp_step::{Course, ItemIds, Order, Steps};
-
-// The items that the first state of the program picks, in order.
-fn picks<L: Ledger>(
-    alloc: Global,
-    blank: Blank,
-    program: Program,
-    course: Course,
-) -> Result<ItemIds, Fail>
-    requires name { blank.name ≡ L.name }
-    requires parts { blank.parts ≡ L.parts }
-    requires some { 0 < L.parts }
-    requires fits { ProgramFits (program_tree program) }
-{
-    let mut steps = Steps::<L>::new(blank);
-    let inputs = Inputs::none(alloc)?;
-    let (mut scene, mut store, setting) = begin(alloc, &program, &inputs)?;
-    let mut tally = nothing_told(alloc);
-    close_by_passes(
-        &mut scene, &mut store, &setting, course, &mut tally, &mut steps,
-    )?;
-    Ok(tally.picks)
-}
-
-// The same of a source, by steps that count their tries by themselves.
-fn picks_of(alloc: Global, source: &str, course: Course) -> Result<ItemIds, Fail> {
-    let program = program_of(alloc, source)?;
-    picks::<Brand>(alloc, Blank::new(1), program, course)
-}
+use tp_step::{Course, Order};
 
 // Four conjuncts, of which each is known by the next one; and five of which each can be reduced at once.
 const CHAIN: &str = "run A = B and B = C and C = 3 and empty.";
@@ -70,8 +30,9 @@ const PICKS: [(&str, Order, u64, &str); 13] = [
 fn each_order_has_its_picks(rt: HostRuntime) -> Result<(), Fail> {
     let alloc = rt.alloc();
     for (source, order, room, expected) in PICKS {
-        let picked = picks_of(alloc, source, Course { order, room })?;
-        let text = format!(in alloc; "{:?}", picked.items.as_slice())?;
+        let course = Course { order, room };
+        let state = closed_source(alloc, source, "", Closing::ByPasses, course)?;
+        let text = format!(in alloc; "{:?}", state.tally.picks.items.as_slice())?;
         same_text(&rt, text.as_str(), expected, source);
     }
     Ok(())

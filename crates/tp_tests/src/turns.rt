@@ -138,17 +138,6 @@ fn expect_clash(rt: &(impl Abort + AllocGlobal), clash: Clash, text: &str) -> Re
     expect(rt, &turn, text.as_str())
 }
 
-fn expect_facts(
-    rt: &(impl Abort + AllocGlobal),
-    kept: &Fact,
-    new: &Fact,
-    text: &str,
-) -> Result<(), Fail> {
-    let kept = kept.copy()?;
-    let new = new.copy()?;
-    expect_clash(rt, Clash::Facts { kept, new }, text)
-}
-
 #[test]
 fn clashes_are_told(rt: HostRuntime) -> Result<(), Fail> {
     for (clash, text) in CLASHES {
@@ -157,8 +146,10 @@ fn clashes_are_told(rt: HostRuntime) -> Result<(), Fail> {
     for (later_at, later, at, earlier, text) in FACTS {
         let later = fact(rt.alloc(), later_at, later)?;
         let earlier = fact(rt.alloc(), at, earlier)?;
-        expect_facts(&rt, &later, &earlier, text)?;
-        expect_facts(&rt, &earlier, &later, text)?;
+        let (kept, new) = (earlier.copy()?, later.copy()?);
+        expect_clash(&rt, Clash::Facts { kept, new }, text)?;
+        let (kept, new) = (later, earlier);
+        expect_clash(&rt, Clash::Facts { kept, new }, text)?;
     }
     Ok(())
 }
