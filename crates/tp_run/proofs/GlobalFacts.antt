@@ -179,6 +179,6 @@ pub parts_are : (globals : ℕ) (kept facts : List Fact) → NoClash kept → Ar
 parts_are globals kept facts n are = parts_same (full kept) (full facts) None facts (λ f i.
     let low = ltb-true f.path.var.number globals (global_kept globals kept facts f are i).1 in
     same_full kept facts f.path are.no_clash (record {
-      there = λ g e j. kept_global globals kept facts g n are (omega (arith, low, e)) j;
+      there = λ g e j. kept_global globals kept facts g n are (subst (λ (x : VarId). x.number < globals) (sym e) low) j;
       back = λ g e j. (global_kept globals kept facts g are j).0;
     }))
