@@ -13,6 +13,7 @@ pub mod Project
 pub mod ByCuts
 pub mod ReadVariables
 pub mod ExampleShows
+pub mod ExampleParts
 pub mod ExampleTurns
 pub mod ExampleProject
 pub mod ExampleCounting
