@@ -123,26 +123,6 @@ fn empty_rows(alloc: Global, n: usize) -> Result<Vec<VerdictRow>, NoMemory>
     Ok(rows)
 }
 
-// The row of a state by its own verdicts and by the row behind it.
-fn suffix_row(
-    alloc: Global,
-    body: &Table,
-    rows: &[VerdictRow],
-    i: usize,
-) -> Result<VerdictRow, NoMemory>
-    requires many { length body.now.rows.items ≡ length rows.now }
-    requires wide { HaveWidth (length rows.now) rows.now }
-    requires start { i < length rows.now }
-    ensures width { IfOk result (λ row. width_of row ≡ words_for (length rows.now)) }
-    ensures verdicts { IfOk result (λ row. (j : ℕ) → verdict_at row j
-        ≡ one_of (stored body.now.rows.items i j) (stored rows.now (suc i) j)) }
-{
-    let mut row = empty_row(alloc, rows.len())?;
-    join_stored(&mut row, Verdict::Yes, rows, i + 1);
-    join_stored(&mut row, Verdict::Yes, body.rows.as_slice(), i);
-    Ok(row)
-}
-
 /// The verdicts on some suffix.
 pub fn suffix_table(alloc: Global, body: &Table) -> Result<Table, NoMemory>
     ensures many { IfOk result (λ table. length table.rows.items ≡ length body.now.rows.items) }
@@ -155,7 +135,10 @@ pub fn suffix_table(alloc: Global, body: &Table) -> Result<Table, NoMemory>
     let mut i = n;
     'starts: while 0 < i {
         i -= 1;
-        let row = suffix_row(alloc, body, rows.as_slice(), i)?;
+        // Its own verdicts, and those of the row behind it.
+        let mut row = empty_row(alloc, rows.len())?;
+        join_stored(&mut row, Verdict::Yes, rows.as_slice(), i + 1);
+        join_stored(&mut row, Verdict::Yes, body.rows.as_slice(), i);
         rows[i] = row;
     }
     Ok(Table { rows })
