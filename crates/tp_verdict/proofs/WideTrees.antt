@@ -1,7 +1,10 @@
 -- The plain trees of wider formulas.
 use Rattle.std.proofs.Common.{◌≡◌, map, ap, sym, ◌∙◌, Global}
+use Rattle.std.specs.declared.rc.Rc.{Rc}
 use Rattle.std.specs.declared.boxed.Box.{Box}
-use Rattle.tp_verdict.specs.Wide.{WideTree, WideTrees, conjunction, chop, sometimes, wide_formulas_of}
+use Rattle.tp_kernel.specs.declared.formula.Expr.{Expr}
+use Rattle.tp_kernel.specs.Read.{expr_tree}
+use Rattle.tp_verdict.specs.Wide.{WideTree, WideTrees, conjunction, chop, while, sometimes, wide_formulas_of}
 use Rattle.tp_verdict.specs.declared.wide_formula.WideFormula.{WideFormula}
 use Rattle.tp_verdict.specs.declared.wide_formula.WideFormulas.{WideFormulas}
 use Rattle.tp_verdict.specs.declared.wide_formula.WideFormula.TheOpen.{WideFormula-F}
@@ -22,6 +25,10 @@ wide_chop w v = rolled (WideFormula-F.Chop w v) (wide.rolls-Chop w v)
 pub wide_sometimes : (w : Box WideFormula Global)
     → wide_tree (wide.Sometimes w) ≡ sometimes (wide_tree w.value)
 wide_sometimes w = rolled (WideFormula-F.Sometimes w) (wide.rolls-Sometimes w)
+
+pub wide_repeat : (w : Box WideFormula Global) (b : Rc Expr Global)
+    → wide_tree (wide.Repeat w b) ≡ chop (wide_tree w.value) (while (expr_tree b.value) (wide_tree w.value))
+wide_repeat w b = rolled (WideFormula-F.Repeat w b) (wide.rolls-Repeat w b)
 
 -- several formulas
 pub wide_trees_is : (ws : WideFormulas) → wide_trees ws ≡ wide_formulas_of (map wide_tree ws.items.items)

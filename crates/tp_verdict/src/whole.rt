@@ -1,7 +1,5 @@
 // The table of a wider formula over states.
 ghost use Rattle.std.specs.Prelude.{◌≡◌, ◌<◌, ◌-◌, IfOk, length};
-ghost use Rattle.tp_kernel.specs.Read.{expr_tree};
-ghost use Rattle.tp_verdict.specs.Wide.{chop, while};
 ghost use Rattle.tp_verdict.specs.Table.{verdict, all_verdicts};
 ghost use Rattle.tp_verdict.specs.Code.{verdict_of};
 ghost use Rattle.tp_verdict.specs.Stored.{HaveVerdicts};
@@ -19,7 +17,6 @@ use crate::tables::{chopped_table, suffix_table};
 use crate::verdict::Verdict;
 use crate::wide_formula::{WideFormula, WideFormulas};
 use std::alloc::Global;
-use tp_kernel::Expr;
 use tp_store::Store;
 use tp_value::NoMemory;
 
@@ -38,25 +35,6 @@ fn table_of_all(alloc: Global, formulas: &WideFormulas, states: &[Store]) -> Res
         all = more;
     }
     Ok(all)
-}
-
-// Of a formula and a loop of it, by one table of the formula.
-#[cycle(table_of)]
-fn table_of_repeat(
-    alloc: Global,
-    formula: &WideFormula,
-    condition: &Expr,
-    states: &[Store],
-) -> Result<Table, NoMemory>
-    ensures many { IfOk result (λ table. length table.rows.items ≡ length states.now) }
-    ensures verdicts { IfOk result (λ table. let body = wide_tree formula.now in
-        HaveVerdicts (verdict (found_in states.now)
-        (chop body (while (expr_tree condition.now) body))) table.rows.items) }
-{
-    let body = table_of(alloc, formula, states)?;
-    let again = while_table(alloc, condition, states, &body)?;
-    let table = chopped_table(alloc, &body, &again)?;
-    Ok(table)
 }
 
 /// The verdicts of the formula on the parts of the states.
@@ -95,7 +73,12 @@ pub fn table_of(alloc: Global, formula: &WideFormula, states: &[Store]) -> Resul
         }
         WideFormula::Not(w) => not_table(alloc, &table_of(alloc, w, states)?),
         WideFormula::Sometimes(w) => suffix_table(alloc, &table_of(alloc, w, states)?),
-        WideFormula::Repeat(w, b) => table_of_repeat(alloc, w, b, states),
+        // One table of the formula serves it and the loop of it.
+        WideFormula::Repeat(w, b) => {
+            let body = table_of(alloc, w, states)?;
+            let again = while_table(alloc, b, states, &body)?;
+            chopped_table(alloc, &body, &again)
+        }
     }
 }
 

@@ -1,6 +1,7 @@
 use Rattle.std.proofs.Common.{◌≡◌, ◌∙◌, ap, ap₂, sym, subst, arith}
 use Rattle.std.proofs.lemmas.Result.{IfOk-weaker}
 use Rattle.tp_kernel.specs.Read.{expr_tree}
+use Rattle.tp_kernel.specs.declared.formula.Expr.{Expr}
 use Rattle.tp_verdict.specs.Wide.{WideTree, chop, while, sometimes}
 use Rattle.tp_verdict.specs.Table.{verdict}
 use Rattle.tp_verdict.specs.Found.{found_in}
@@ -8,15 +9,8 @@ use Rattle.tp_verdict.specs.Stored.{HaveVerdicts}
 use Rattle.tp_verdict.specs.Read.{wide_tree}
 use Rattle.tp_verdict.specs.declared.wide_formula.WideFormula.{WideFormula}
 use Rattle.tp_verdict.proofs.WholeLemmas.{first_verdicts, none_first, first_more, all_first}
-use Rattle.tp_verdict.proofs.WideTrees.{wide_chop, wide_sometimes}
+use Rattle.tp_verdict.proofs.WideTrees.{wide_chop, wide_sometimes, wide_repeat}
 use Rattle.tp_verdict.proofs.whole.+table_of.Goals as goal
-
-pub table_of_repeat-returns-clause-verdicts : goal.table_of_repeat-returns-clause-verdicts
-table_of_repeat-returns-clause-verdicts t c =
-    let found = found_in c.args.states.now in
-    let w = wide_tree c.args.formula.now in
-    c.in_ok-table.ensures.verdicts (verdict found w) (verdict found (while (expr_tree c.args.condition.now) w))
-    c.in_ok-body.ensures.verdicts (c.in_ok-again.ensures.verdicts w c.in_ok-body.ensures.verdicts)
 
 pub table_of-returns-in_ok-table_of-in-Chop-clause-verdicts : goal.table_of-returns-in_ok-table_of-in-Chop-clause-verdicts
 table_of-returns-in_ok-table_of-in-Chop-clause-verdicts t c =
@@ -41,6 +35,20 @@ table_of-returns-in_ok-table_of-in-Sometimes-clause-verdicts t c =
     (λ table h. subst (λ (x : WideTree). HaveVerdicts (verdict found x) table.rows.items) is
     (h (verdict found (wide_tree w)) c.in_ok-table_of-in-Sometimes.ensures.verdicts))
     c.suffix_table.ensures.verdicts
+
+pub table_of-returns-in_ok-again-in-Repeat-clause-verdicts : goal.table_of-returns-in_ok-again-in-Repeat-clause-verdicts
+table_of-returns-in_ok-again-in-Repeat-clause-verdicts t c =
+    let found = found_in c.args.states.now in
+    let w = wide_tree c.deref-in-Repeat.result.now in
+    let again = while (expr_tree c.deref-in-Repeat-2.result.now) w in
+    let body = c.in_ok-body-in-Repeat.ensures.verdicts in
+    let is : chop w again ≡ wide_tree c.args.formula.now =
+    sym (ap wide_tree c.in-Repeat.is ∙ (wide_repeat c.in-Repeat.w c.in-Repeat.b
+    ∙ ap₂ (λ (x : WideFormula) (y : Expr). chop (wide_tree x) (while (expr_tree y) (wide_tree x))) (sym c.deref-in-Repeat.ensures) (sym c.deref-in-Repeat-2.ensures))) in
+    IfOk-weaker c.chopped_table-in-Repeat.result _ (λ table. HaveVerdicts (verdict found (wide_tree c.args.formula.now)) table.rows.items)
+    (λ table h. subst (λ (x : WideTree). HaveVerdicts (verdict found x) table.rows.items) is
+    (h (verdict found w) (verdict found again) body (c.in_ok-again-in-Repeat.ensures.verdicts w body)))
+    c.chopped_table-in-Repeat.ensures.verdicts
 
 pub table_of_all-loop-formula-init : goal.table_of_all-loop-formula-init
 table_of_all-loop-formula-init t c =
