@@ -2,13 +2,16 @@
 use Rattle.std.specs.Prelude.{List, map}
 use Rattle.std.specs.Global.{Global}
 use Rattle.std.specs.declared.boxed.Box.{Box}
+use Rattle.tp_meaning.specs.Syntax.{ExprTree}
 use Rattle.tp_verdict.specs.declared.wide_formula.WideFormula.{WideFormula}
 use Rattle.tp_verdict.specs.declared.wide_formula.WideFormulas.{WideFormulas}
-use Rattle.tp_verdict.specs.Wide.{WideTree, next, if_more, if_empty, always}
+use Rattle.tp_verdict.specs.Wide.{WideTree, trivial, next, if_more, if_empty, always, branch, while}
 use Rattle.tp_verdict.specs.Read.{wide_tree}
 use Rattle.tp_monitor.specs.declared.wide.Wide.{Wide}
 use Rattle.tp_monitor.specs.declared.widening.Over.{Over}
 use Rattle.tp_monitor.specs.declared.widening.Over.TheVariants.{Next, IfMore, IfEmpty, Always}
+use Rattle.tp_monitor.specs.declared.wide_formula_of.Guard.{Guard}
+use Rattle.tp_monitor.specs.declared.wide_formula_of.Guard.TheVariants.{If, While}
 use Rattle.tp_monitor.specs.WideOf.{NamedWide}
 
 abbrev pub wide_seen : Wide → NamedWide
@@ -28,3 +31,8 @@ made_over Next w = next w
 made_over IfMore w = if_more w
 made_over IfEmpty w = if_empty w
 made_over Always w = always w
+
+-- what stands under a condition
+abbrev pub widely_guarded : Guard → ExprTree → WideTree → WideTree
+widely_guarded If = λ b w. branch b w trivial
+widely_guarded While = while

@@ -7,10 +7,9 @@ ghost use Rattle.tp_scope.specs.Seen.{names_seen};
 ghost use Rattle.tp_check.specs.Outcome.{both};
 ghost use Rattle.tp_check.specs.Answers.{AnswersCheck};
 ghost use Rattle.tp_check.specs.Positions.{expr_of};
-ghost use Rattle.tp_verdict.specs.Wide.{trivial, branch, while};
 ghost use Rattle.tp_verdict.specs.Read.{wide_tree};
 ghost use Rattle.tp_monitor.specs.WideOf.{run_widely, repeated_until, wide_of, wide_of_kind, wide_in};
-ghost use Rattle.tp_monitor.specs.Seen.{box_seen, wides_seen};
+ghost use Rattle.tp_monitor.specs.Seen.{box_seen, wides_seen, widely_guarded};
 
 use crate::widening::widen;
 use std::alloc::Global;
@@ -20,6 +19,13 @@ use tp_kernel::Expr;
 use tp_scope::{Visible, is_place};
 use tp_tree::{Form, Op, Phrase, PhraseKind, Phrases};
 use tp_verdict::{WideFormula, WideFormulas};
+
+// What stands under a condition is done once, or as long as the condition holds.
+#[derive(Clone, Copy)]
+enum Guard {
+    If,
+    While,
+}
 
 // The formula that a phrase is where it is run, as a wider one.
 fn run_as_wide(alloc: Global, phrase: &Phrase, names: &Visible) -> Result<WideFormula, CheckRefusal>
@@ -108,13 +114,13 @@ pub fn wide_formula_of(
         }
         PhraseKind::Next(later) => Ok(WideFormula::Next(wide_box(alloc, later, names)?)),
         PhraseKind::Form(form, operands) => wide_form(alloc, operands, phrase, *form, names),
-        PhraseKind::If(condition, first, None) => wide_if(alloc, first, condition, names),
+        PhraseKind::If(condition, body, None) => guarded(alloc, Guard::If, body, condition, names),
         PhraseKind::If(condition, first, Some(second)) => {
             let condition = shared_expression(alloc, condition, names)?;
             let first = wide_box(alloc, first, names)?;
             Ok(WideFormula::If(condition, first, wide_box(alloc, second, names)?))
         }
-        PhraseKind::While(condition, body) => wide_while(alloc, body, condition, names),
+        PhraseKind::While(condition, body) => guarded(alloc, Guard::While, body, condition, names),
         PhraseKind::Repeat(body, condition) => wide_repeat(alloc, body, condition, names),
         PhraseKind::For(_, _, _) | PhraseKind::Forall(_, _, _) | PhraseKind::Exists(_, _) => {
             Err(CheckRefusal::NotExecutable { at: phrase.at })
@@ -155,42 +161,27 @@ fn wides(alloc: Global, phrases: &Phrases, names: &Visible) -> Result<WideFormul
     Ok(WideFormulas { items })
 }
 
-// `if condition then first`
+// The body under this condition.
 #[cycle(wide_formula_of)]
-fn wide_if(
+fn guarded(
     alloc: Global,
-    first: &Phrase,
-    condition: &Phrase,
-    names: &Visible,
-) -> Result<WideFormula, CheckRefusal>
-    ensures { AnswersCheck wide_tree
-        (both (λ b w. branch b w trivial)
-        (expr_of (names_seen names.now) (phrase_tree condition.now))
-        (wide_of (names_seen names.now) (phrase_tree first.now)))
-        result }
-{
-    let condition = shared_expression(alloc, condition, names)?;
-    let first = wide_box(alloc, first, names)?;
-    Ok(WideFormula::If(condition, first, Box::new(alloc, WideFormula::True)?))
-}
-
-// `while condition do body`
-#[cycle(wide_formula_of)]
-fn wide_while(
-    alloc: Global,
+    guard: Guard,
     body: &Phrase,
     condition: &Phrase,
     names: &Visible,
 ) -> Result<WideFormula, CheckRefusal>
     ensures { AnswersCheck wide_tree
-        (both while
+        (both (widely_guarded guard)
         (expr_of (names_seen names.now) (phrase_tree condition.now))
         (wide_of (names_seen names.now) (phrase_tree body.now)))
         result }
 {
     let condition = shared_expression(alloc, condition, names)?;
     let body = wide_box(alloc, body, names)?;
-    Ok(WideFormula::While(condition, body))
+    match guard {
+        Guard::If => Ok(WideFormula::If(condition, body, Box::new(alloc, WideFormula::True)?)),
+        Guard::While => Ok(WideFormula::While(condition, body)),
+    }
 }
 
 // `repeat body until condition`
