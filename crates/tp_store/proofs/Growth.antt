@@ -1,9 +1,9 @@
 -- What a tree is after it grows.
-use Rattle.std.proofs.Common.{◌≡◌, inl, inr, ℕ, zero, suc, ◌^◌, ◌<◌, ◌≤◌, List, [], ◌∷◌, ◌++◌, length, set, slice_get, Option, Some, None, refl, ap, ap₂, sym, ◌∙◌, subst, arith, append-nil, append_assoc}
+use Rattle.std.proofs.Common.{◌≡◌, inl, inr, ℕ, zero, suc, ◌-◌, ◌^◌, ◌<◌, ◌≤◌, List, [], ◌∷◌, ◌++◌, length, set, slice_get, Option, Some, None, refl, ap, ap₂, sym, ◌∙◌, subst, arith, append-nil, append_assoc}
 use Rattle.std.specs.List.{IsDistinct}
 use Rattle.std.proofs.lemmas.Option.{slice_get_within}
 use Rattle.std.specs.Map.{keys_of, values_of}
-use Rattle.indexmap.specs.IndexMap.{insert_entry}
+use Rattle.indexmap.specs.IndexMap.{insert_entry, set_value_at}
 use Rattle.tp_value.specs.declared.path.Fact.{Fact}
 use Rattle.tp_store.specs.declared.nodes.Edge.{Edge}
 use Rattle.tp_store.specs.declared.nodes.Node.{Node}
@@ -11,12 +11,12 @@ use Rattle.tp_store.specs.declared.nodes.Nodes.{Nodes}
 use Rattle.tp_store.specs.Facts.{kept_shape}
 use Rattle.tp_store.specs.Known.{NoClash, deepest}
 use Rattle.tp_store.specs.Changes.{HaveSameShapes}
-use Rattle.tp_store.specs.Nodes.{bare_node, edge, same_edge, edges_in, nodes_in, child, routes, IsRooted, facts_along, shape_among, beyond_among, with_node, AreBeyond, AreNarrow, StandAtNumbers, IsTree, HasMoreNodes, KeepsAll, IsRaised}
+use Rattle.tp_store.specs.Nodes.{bare_node, edge, same_edge, edges_in, nodes_in, child, routes, IsRooted, facts_along, beyond_among, with_node, AreBeyond, AreNarrow, StandAtNumbers, IsTree, HasMoreNodes, KeepsAll, IsRaised}
 use Rattle.tp_store.proofs.Members.{In, in_kept}
 use Rattle.tp_store.proofs.Same.{kept_depth}
 use Rattle.tp_store.proofs.Routes.{rooted_more, child_there, child_found, length_more}
 use Rattle.tp_store.proofs.Trees.{facts_grown, facts_same}
-use Rattle.tp_store.proofs.Ways.{length_keys, length_values, keys_more, values_more, entry_last, get_last, raised, bound_more, narrow_more, get_of_more, slice_left, none_past, beyond_there, length_with}
+use Rattle.tp_store.proofs.Ways.{length_keys, length_values, keys_more, values_more, values_set, shape_of_node, beyond_of_node, entry_last, get_last, raised, bound_more, narrow_more, get_of_more, slice_left, none_past, beyond_there, length_with}
 
 set_there : (xs : List ℕ) (n v : ℕ) → n < length xs → slice_get (set xs n v) n ≡ Some v
 set_there [] n v h = absurd (omega arith)
@@ -82,6 +82,13 @@ grown_long mid fs node index none e =
     let c = length_keys mid.below.entries in
     omega (arith, a, b, c)
 
+-- A child of a node came last.
+pub record HasGrown (mid new : Nodes) (node index : ℕ) : Type 0 where
+  pub tree : IsTree new
+  pub more : HasMoreNodes mid new
+  pub found : IsDistinct same_edge (edges_in new) → child (edges_in new) node index ≡ Some (length new.below.entries)
+  pub within : length new.below.entries < length (nodes_in new)
+
 -- a child that wasn't there
 module _ (mid new : Nodes) (node index : ℕ) (t : IsTree mid) (low : node < length (nodes_in mid)) (none : child (edges_in mid) node index ≡ None)
     (narrow : 0 < node → index < 2 ^ 32) (bound : 0 < node → index < beyond_among (nodes_in mid) node)
@@ -96,7 +103,7 @@ module _ (mid new : Nodes) (node index : ℕ) (t : IsTree mid) (low : node < len
   new_nodes : nodes_in new ≡ nodes_in mid ++ bare_node ∷ []
   new_nodes = ap (λ (es : List (Edge × Node)). bare_node ∷ values_of es) last ∙ ap (λ vs. bare_node ∷ vs) (values_more mid.below.entries (edge node index) bare_node)
 
-  pub new_tree : IsTree new
+  new_tree : IsTree new
   new_tree =
       let R : List Edge → Type 0 = λ es. IsRooted 1 es × AreNarrow es in
       let B : List Edge → Type 0 = λ es. AreBeyond es (nodes_in new) in
@@ -114,7 +121,7 @@ module _ (mid new : Nodes) (node index : ℕ) (t : IsTree mid) (low : node < len
         beyond = subst B (sym new_edges) (subst N (sym new_nodes) (bound_more (edges_in mid) (nodes_in mid) (edge node index) bare_node t.beyond bound));
       }
 
-  pub new_more : HasMoreNodes mid new
+  new_more : HasMoreNodes mid new
   new_more = record {
     more = edge node index ∷ [];
     edges = new_edges;
@@ -127,17 +134,31 @@ module _ (mid new : Nodes) (node index : ℕ) (t : IsTree mid) (low : node < len
       let b = length_keys new.below.entries in
       omega (arith, a, b)
 
-  pub new_child : IsDistinct same_edge (edges_in new) → child (edges_in new) node index ≡ Some (length new.below.entries)
+  new_child : IsDistinct same_edge (edges_in new) → child (edges_in new) node index ≡ Some (length new.below.entries)
   new_child d =
       let there : slice_get (edges_in new) (length (edges_in mid)) ≡ Some (edge node index) =
       ap (λ es. slice_get es (length (edges_in mid))) new_edges ∙ get_last (edges_in mid) (edge node index) in
       child_there (edges_in new) (length (edges_in mid)) (edge node index) d there ∙ ap Some new_long
 
-  pub new_within : length new.below.entries < length (nodes_in new)
+  new_within : length new.below.entries < length (nodes_in new)
   new_within =
       let a = length_nodes new in
       let b = length_keys new.below.entries in
       omega (arith, a, b)
+
+  pub has_grown : HasGrown mid new node index
+  has_grown = record { tree = new_tree; more = new_more; found = new_child; within = new_within }
+
+-- a node that is written over
+pub written : (t : Nodes) (n : ℕ) (v : Node) → 0 < n → bare_node ∷ values_of (set_value_at t.below.entries (n - 1) v) ≡ with_node (nodes_in t) n v
+written t n v low =
+    let more : n ≡ suc (n - 1) = omega (arith, low) in
+    ap (λ (vs : List Node). bare_node ∷ vs) (values_set t.below.entries (n - 1) v) ∙ ap (λ k. with_node (nodes_in t) k v) (sym more)
+
+pub node_below : (t : Nodes) (n : ℕ) (o : Option Node) → 0 < n → slice_get (values_of t.below.entries) (n - 1) ≡ o → slice_get (nodes_in t) n ≡ o
+node_below t n o low h =
+    let more : n ≡ suc (n - 1) = omega (arith, low) in
+    ap (slice_get (nodes_in t)) more ∙ h
 
 -- a node that keeps its shape
 module _ (old new : Nodes) (node : ℕ) (v : Node) (t : IsTree old) (edges : edges_in new ≡ edges_in old) (nodes : nodes_in new ≡ with_node (nodes_in old) node v)
@@ -157,19 +178,20 @@ module _ (old new : Nodes) (node : ℕ) (v : Node) (t : IsTree old) (edges : edg
         beyond = subst B (sym edges) (subst N (sym nodes) (raised (edges_in old) (nodes_in old) node v rises t.beyond));
       }
 
-  pub set_raised : (index : ℕ) → node < length (nodes_in old) → v.shape ≡ shape_among (nodes_in old) node → index < v.beyond → IsRaised old node index new
-  set_raised index low shape l = record {
-    tree = set_tree;
-    edges = edges;
-    long = ap length nodes ∙ length_with (nodes_in old) node v;
-    facts = λ b. ap₂ (λ es ns. facts_along b (routes es) ns) edges nodes ∙ facts_same b (routes (edges_in old)) (nodes_in old) node v shape;
-    bound =
-        (let there : beyond_among (nodes_in new) node ≡ v.beyond = ap (λ ns. beyond_among ns node) nodes ∙ beyond_there (nodes_in old) node v low in
-        omega (arith, there, l));
-  }
-
-pub high_enough : (old : Nodes) (node index : ℕ) → IsTree old → index < beyond_among (nodes_in old) node → IsRaised old node index old
-high_enough old node index t l = record { tree = t; edges = refl; long = refl; facts = λ b. refl; bound = l }
+pub set_raised : (old new : Nodes) (node index : ℕ) (parent v : Node) → IsTree old → slice_get (nodes_in old) node ≡ Some parent → v.shape ≡ parent.shape
+    → edges_in new ≡ edges_in old → nodes_in new ≡ with_node (nodes_in old) node v → new.places.items ≡ old.places.items → parent.beyond ≤ v.beyond → index < v.beyond → IsRaised old node index new
+set_raised old new node index parent v t there shape edges nodes places rises l =
+    let low = slice_get_within (nodes_in old) node parent there in
+    let before = beyond_of_node (nodes_in old) node parent there in
+    record {
+      tree = set_tree old new node v t edges nodes places (omega (arith, before, rises));
+      edges = edges;
+      long = ap length nodes ∙ length_with (nodes_in old) node v;
+      facts = λ b. ap₂ (λ es ns. facts_along b (routes es) ns) edges nodes ∙ facts_same b (routes (edges_in old)) (nodes_in old) node v (shape ∙ sym (shape_of_node (nodes_in old) node parent there));
+      bound =
+          (let after : beyond_among (nodes_in new) node ≡ v.beyond = ap (λ ns. beyond_among ns node) nodes ∙ beyond_there (nodes_in old) node v low in
+          omega (arith, after, l));
+    }
 
 pub raised_more : (old mid : Nodes) (node index : ℕ) → IsRaised old node index mid → HasMoreNodes old mid
 raised_more old mid node index r = record { more = []; edges = r.edges ∙ sym (append-nil (edges_in old)); facts = r.facts }

@@ -6,6 +6,7 @@ use Rattle.std.specs.Map.{keys_of, values_of}
 use Rattle.indexmap.specs.IndexMap.{insert_entry, set_value_at}
 use Rattle.indexmap.proofs.MapLemmas.{Missing-position, insert_entry-absent}
 use Rattle.std.proofs.lemmas.Bool.{or_cases, or_parts, both_ways, false_from_ne_true}
+use Rattle.std.proofs.lemmas.Option.{slice_get-map, slice_get-get_or}
 use Rattle.std.proofs.Math.Seq.{drop-cons}
 use Rattle.tp_value.specs.declared.path.Path.{Path}
 use Rattle.tp_value.specs.declared.path.Fact.{Fact}
@@ -46,25 +47,12 @@ keys_set [] i v = refl
 keys_set (e ∷ es) zero v = refl
 keys_set (e ∷ es) (suc i) v = ap (λ ks. e.0 ∷ ks) (keys_set es i v)
 
-pub values_at : (es : List (Edge × Node)) (i : ℕ) (e : Edge × Node) → slice_get es i ≡ Some e → slice_get (values_of es) i ≡ Some e.1
-values_at [] i e h = absurd (cc)
-values_at (x ∷ es) zero e h = let s : x ≡ e = cc h in ap (λ (y : Edge × Node). Some y.1) s
-values_at (x ∷ es) (suc i) e h = values_at es i e h
+-- what stands of an entry among the nodes, and among the edges
+pub values_at : (es : List (Edge × Node)) (i : ℕ) (o : Option (Edge × Node)) → slice_get es i ≡ o → slice_get (values_of es) i ≡ option_map (λ (e : Edge × Node). e.1) o
+values_at es i o h = slice_get-map (λ (e : Edge × Node). e.1) es i ∙ ap (option_map (λ (e : Edge × Node). e.1)) h
 
-pub keys_at : (es : List (Edge × Node)) (i : ℕ) (e : Edge × Node) → slice_get es i ≡ Some e → slice_get (keys_of es) i ≡ Some e.0
-keys_at [] i e h = absurd (cc)
-keys_at (x ∷ es) zero e h = let s : x ≡ e = cc h in ap (λ (y : Edge × Node). Some y.0) s
-keys_at (x ∷ es) (suc i) e h = keys_at es i e h
-
-pub values_past : (es : List (Edge × Node)) (i : ℕ) → slice_get es i ≡ None → slice_get (values_of es) i ≡ None
-values_past [] i h = refl
-values_past (x ∷ es) zero h = absurd (cc h)
-values_past (x ∷ es) (suc i) h = values_past es i h
-
-pub keys_past : (es : List (Edge × Node)) (i : ℕ) → slice_get es i ≡ None → slice_get (keys_of es) i ≡ None
-keys_past [] i h = refl
-keys_past (x ∷ es) zero h = absurd (cc h)
-keys_past (x ∷ es) (suc i) h = keys_past es i h
+pub keys_at : (es : List (Edge × Node)) (i : ℕ) (o : Option (Edge × Node)) → slice_get es i ≡ o → slice_get (keys_of es) i ≡ option_map (λ (e : Edge × Node). e.0) o
+keys_at es i o h = slice_get-map (λ (e : Edge × Node). e.0) es i ∙ ap (option_map (λ (e : Edge × Node). e.0)) h
 
 pub shape_of_node : (ns : List Node) (i : ℕ) (n : Node) → slice_get ns i ≡ Some n → shape_among ns i ≡ n.shape
 shape_of_node [] i n h = absurd (cc)
@@ -146,6 +134,11 @@ pub ways_long : (es : List Edge) (fs : List Fact) (ns : List ℕ) → AreWays es
 ways_long es [] ns h = omega arith
 ways_long es (f ∷ fs) [] h = absurd h
 ways_long es (f ∷ fs) (n ∷ ns) h = let r = ways_long es fs ns h.1 in omega (arith, r)
+
+pub way_here : (es : List Edge) (fs : List Fact) (ns : List ℕ) (i : ℕ) (f : Fact) → AreWays es fs ns → i < length fs → f ≡ get_or fs i f → node_from es (way_of f.path) 0 ≡ Some (get_or ns i 0)
+way_here es fs ns i f h low is =
+    let long = ways_long es fs ns h in
+    way_at es fs ns i f (get_or ns i 0) h (slice_get-get_or fs i f low ∙ ap Some (sym is)) (slice_get-get_or ns i 0 (omega (arith, long, low)))
 
 -- one step more on the way
 pub way_on : (old new more : List Edge) (ks : List ℕ) (k node to : ℕ) → new ≡ old ++ more → IsDistinct same_edge new → node_from old ks 0 ≡ Some node → child new node k ≡ Some to

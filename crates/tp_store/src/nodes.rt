@@ -230,19 +230,6 @@ impl Nodes {
         }
     }
 
-    // Writes the node over that with the number, which isn't the root.
-    fn set(&mut self, number: u64, node: Node)
-        requires below { 0 < number }
-        requires within { number < length (nodes_in self.old) }
-        ensures edges { edges_in self.new ≡ edges_in self.old }
-        ensures places { self.new.places.items ≡ self.old.places.items }
-        ensures nodes { nodes_in self.new ≡ with_node (nodes_in self.old) number node }
-    {
-        if let Some(kept) = self.below.get_index_mut((number - 1) as usize) {
-            *kept = node;
-        }
-    }
-
     // Raises the bound of a node past that index of an item, where it isn't.
     fn raise(&mut self, node: u64, index: u64)
         requires tree { IsTree self.old }
@@ -251,37 +238,9 @@ impl Nodes {
         requires narrow { index < 2 ^ 32 }
         ensures { IsRaised self.old node index self.new }
     {
-        let beyond = index + 1;
-        let Some(parent) = self.node(node) else {
-            return;
-        };
-        if parent.beyond < beyond {
-            self.set(
-                node,
-                Node {
-                    shape: parent.shape,
-                    beyond,
-                },
-            );
+        if let Some(kept) = self.below.get_index_mut((node - 1) as usize) {
+            kept.beyond = kept.beyond.max(index + 1);
         }
-    }
-
-    // Makes the child of a node with that index of an item, which isn't there yet.
-    fn grow(&mut self, node: u64, index: u64) -> Result<u64, NoMemory>
-        requires tree { IsTree self.old }
-        requires below { 0 < node }
-        requires from { node < length (nodes_in self.old) }
-        requires narrow { index < 2 ^ 32 }
-        requires absent { child (edges_in self.old) node index ≡ None }
-        ensures tree { IsTree self.new }
-        ensures more { HasMoreNodes self.old self.new }
-        ensures unique { IfOk result (λ n. IsDistinct same_edge (edges_in self.new)) }
-        ensures within { IfOk result (λ n. n < length (nodes_in self.new)) }
-        ensures child { IfOk result (λ n. child (edges_in self.new) node index ≡ Some n) }
-    {
-        self.raise(node, index);
-        self.below.insert(Edge { node, index }, BARE)?;
-        Ok(self.below.len() as u64)
     }
 
     // Leads to the child of a node with that index of an item, which is made where it isn't there yet.
@@ -296,32 +255,12 @@ impl Nodes {
         ensures within { IfOk result (λ n. n < length (nodes_in self.new)) }
         ensures child { IfOk result (λ n. child (edges_in self.new) node index ≡ Some n) }
     {
-        match self.child(node, index) {
-            Some(found) => Ok(found),
-            None => self.grow(node, index),
+        if let Some(found) = self.child(node, index) {
+            return Ok(found);
         }
-    }
-
-    // Makes the node of the variable with that number, which isn't there yet.
-    fn grow_root(&mut self, number: u64) -> Result<u64, NoMemory>
-        requires tree { IsTree self.old }
-        requires absent { child (edges_in self.old) 0 number ≡ None }
-        ensures tree { IsTree self.new }
-        ensures more { HasMoreNodes self.old self.new }
-        ensures unique { IfOk result (λ n. IsDistinct same_edge (edges_in self.new)) }
-        ensures within { IfOk result (λ n. n < length (nodes_in self.new)) }
-        ensures child { IfOk result (λ n. child (edges_in self.new) 0 number ≡ Some n) }
-    {
-        let _count = self.below.len();
-        reach(&mut self.places, number)?;
-        let edge = Edge {
-            node: 0,
-            index: number,
-        };
-        self.below.insert(edge, BARE)?;
-        let count = self.below.len() as u64;
-        self.places[number as usize] = count - 1;
-        Ok(count)
+        self.raise(node, index);
+        self.below.insert(Edge { node, index }, BARE)?;
+        Ok(self.below.len() as u64)
     }
 
     // Leads to the node of the variable with that number, which is made where it isn't there yet.
@@ -334,10 +273,18 @@ impl Nodes {
         ensures child { IfOk result (λ n. child (edges_in self.new) 0 number ≡ Some n) }
     {
         let _count = self.below.len();
-        match self.root(number) {
-            Some(found) => Ok(found),
-            None => self.grow_root(number),
+        if let Some(found) = self.root(number) {
+            return Ok(found);
         }
+        reach(&mut self.places, number)?;
+        let edge = Edge {
+            node: 0,
+            index: number,
+        };
+        self.below.insert(edge, BARE)?;
+        let count = self.below.len() as u64;
+        self.places[number as usize] = count - 1;
+        Ok(count)
     }
 
     // Leads to the node of the path; the nodes that aren't there yet are made.
@@ -379,14 +326,8 @@ impl Nodes {
         ensures places { self.new.places.items ≡ self.old.places.items }
         ensures nodes { nodes_in self.new ≡ with_shape_at (nodes_in self.old) number shape }
     {
-        if let Some(node) = self.node(number) {
-            self.set(
-                number,
-                Node {
-                    shape: Some(shape),
-                    beyond: node.beyond,
-                },
-            );
+        if let Some(kept) = self.below.get_index_mut((number - 1) as usize) {
+            kept.shape = Some(shape);
         }
     }
 
@@ -398,6 +339,22 @@ impl Nodes {
         self.below.clear();
     }
 
+    // The edge that leads to the node with that number, which isn't the root.
+    fn edge_to(&self, number: u64) -> Edge
+        requires tree { IsTree self.now }
+        requires below { 0 < number }
+        requires within { number < length (nodes_in self.now) }
+        ensures before { result.node < number }
+        ensures narrow { 0 < result.node → result.index < 2 ^ 32 }
+        ensures route { slice_index_or (routes (edges_in self.now)) number []
+            ≡ slice_index_or (routes (edges_in self.now)) result.node [] ++ result.index ∷ [] }
+    {
+        let Some((edge, _)) = self.below.get_index((number - 1) as usize) else {
+            unreachable!();
+        };
+        *edge
+    }
+
     /// The number of the variable of whose value the node with that number, which isn't the root, is a part.
     pub fn owner(&self, number: u64) -> u64
         requires tree { IsTree self.now }
@@ -406,9 +363,7 @@ impl Nodes {
         ensures { (b : Bool) → result
             ≡ (path_of b (slice_index_or (routes (edges_in self.now)) number [])).var.number }
     {
-        let Some((edge, _)) = self.below.get_index((number - 1) as usize) else {
-            unreachable!();
-        };
+        let edge = self.edge_to(number);
         if edge.node == 0 {
             return edge.index;
         }
@@ -423,10 +378,7 @@ impl Nodes {
         ensures { IfOk result (λ p.
             p ≡ path_of lasting (slice_index_or (routes (edges_in self.now)) number [])) }
     {
-        let Some((edge, _)) = self.below.get_index((number - 1) as usize) else {
-            unreachable!();
-        };
-        let Edge { node, index } = *edge;
+        let Edge { node, index } = self.edge_to(number);
         if node == 0 {
             let at = Indices::new(alloc);
             return Ok(Path {

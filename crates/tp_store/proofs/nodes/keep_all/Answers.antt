@@ -1,6 +1,5 @@
-use Rattle.std.proofs.Common.{◌≡◌, inl, ◌+◌, ◌++◌, ◌∷◌, [], Some, length, take, take_all, drop, get_or, slice_get, List, refl, ap, ap₂, sym, ◌∙◌, subst, arith}
+use Rattle.std.proofs.Common.{◌≡◌, inl, ◌+◌, ◌++◌, ◌∷◌, [], Some, length, take, take_all, drop, get_or, List, refl, ap, ap₂, sym, ◌∙◌, subst, arith}
 use Rattle.std.specs.List.{IsDistinct}
-use Rattle.std.proofs.lemmas.Option.{slice_get-get_or}
 use Rattle.tp_value.specs.declared.path.Fact.{Fact}
 use Rattle.tp_store.specs.declared.nodes.Edge.{Edge}
 use Rattle.tp_store.specs.Nodes.{edges_in, nodes_in, node_from, way_of, same_edge, routes, facts_along, facts_in_tree, with_shape_at}
@@ -8,7 +7,7 @@ use Rattle.tp_store.proofs.Members.{In, in_right}
 use Rattle.tp_store.proofs.Parts.{kind_in}
 use Rattle.tp_store.proofs.FactMapLemmas.{split_at}
 use Rattle.tp_store.proofs.Trees.{fact_added, node_within}
-use Rattle.tp_store.proofs.Ways.{ways_long, way_at, way_below, next_item}
+use Rattle.tp_store.proofs.Ways.{ways_long, way_here, way_below, next_item}
 use Rattle.tp_store.proofs.Growth.{length_nodes, set_tree}
 use Rattle.tp_store.proofs.Kept.{AreKept, kept_nothing, kept_next, absent_next, kept_shapes, front_apart}
 use Rattle.tp_store.proofs.nodes.keep_all.Goals as goal
@@ -25,36 +24,18 @@ bounds-ways-i c =
     let long = ways_long (edges_in c.args.nodes.now) c.args.facts.now c.args.ways.now c.requires.ways in
     omega (arith, long, c.loop-i-test.true)
 
-pub keep-requires-clause-within : goal.keep-requires-clause-within
-keep-requires-clause-within c =
+pub keep-requires : goal.keep-requires
+keep-requires c =
     let es = edges_in c.args.nodes.now in
-    let fs = c.args.facts.now in
-    let ns = c.args.ways.now in
-    let i = c.loop-i.i in
     let f = c.index-facts-i.result in
-    let n = get_or ns i 0 in
-    let low = c.loop-i-test.true in
-    let long = ways_long es fs ns c.requires.ways in
-    let here : slice_get fs i ≡ Some f = slice_get-get_or fs i f low ∙ ap Some (sym c.index-facts-i.is) in
-    let there : slice_get ns i ≡ Some n = slice_get-get_or ns i 0 (omega (arith, long, low)) in
-    let way = way_at es fs ns i f n c.requires.ways here there in
-    let within = node_within es (way_of f.path) 0 n (omega arith) way in
+    let way = way_here es c.args.facts.now c.args.ways.now c.loop-i.i f c.requires.ways c.loop-i-test.true c.index-facts-i.is in
+    let within = node_within es (way_of f.path) 0 _ (omega arith) way in
     let same = ap length c.loop-i.invariant.edges in
     let nodes = length_nodes c.loop-i.nodes in
-    omega (arith, within, same, nodes)
-
-pub keep-requires-clause-below : goal.keep-requires-clause-below
-keep-requires-clause-below c =
-    let es = edges_in c.args.nodes.now in
-    let fs = c.args.facts.now in
-    let ns = c.args.ways.now in
-    let i = c.loop-i.i in
-    let f = c.index-facts-i.result in
-    let low = c.loop-i-test.true in
-    let long = ways_long es fs ns c.requires.ways in
-    let here : slice_get fs i ≡ Some f = slice_get-get_or fs i f low ∙ ap Some (sym c.index-facts-i.is) in
-    let there : slice_get ns i ≡ Some (get_or ns i 0) = slice_get-get_or ns i 0 (omega (arith, long, low)) in
-    way_below es f.path.var.number f.path.at 0 _ (way_at es fs ns i f (get_or ns i 0) c.requires.ways here there)
+    record {
+      below = way_below es f.path.var.number f.path.at 0 _ way;
+      within = omega (arith, within, same, nodes);
+    }
 
 pub loop-i-preserved : goal.loop-i-preserved
 loop-i-preserved c =
@@ -64,15 +45,12 @@ loop-i-preserved c =
     let new = c.keep.new.self in
     let es = edges_in old in
     let fs = c.args.facts.now in
-    let ns = c.args.ways.now in
     let i = c.loop-i.i in
     let f = c.index-facts-i.result in
-    let n = get_or ns i 0 in
+    let n = get_or c.args.ways.now i 0 in
     let low = c.loop-i-test.true in
-    let long = ways_long es fs ns c.requires.ways in
-    let here : slice_get fs i ≡ Some f = slice_get-get_or fs i f low ∙ ap Some (sym c.index-facts-i.is) in
-    let there : slice_get ns i ≡ Some n = slice_get-get_or ns i 0 (omega (arith, long, low)) in
-    let way : node_from (edges_in cur) (way_of f.path) 0 ≡ Some n = ap (λ e. node_from e (way_of f.path) 0) inv.edges ∙ way_at es fs ns i f n c.requires.ways here there in
+    let way : node_from (edges_in cur) (way_of f.path) 0 ≡ Some n =
+    ap (λ e. node_from e (way_of f.path) 0) inv.edges ∙ way_here es fs c.args.ways.now i f c.requires.ways low c.index-facts-i.is in
     let D : List Edge → Type 0 = λ e. IsDistinct same_edge e in
     let d : IsDistinct same_edge (edges_in cur) = subst D (sym inv.edges) c.count-count.ensures.unique in
     let split : fs ≡ take i fs ++ f ∷ drop (i + 1) fs = split_at fs i f low ∙ ap (λ g. take i fs ++ g ∷ drop (i + 1) fs) (sym c.index-facts-i.is) in

@@ -1,43 +1,22 @@
-use Rattle.std.proofs.Common.{rules, ◌≡◌, ◌-◌, ◌<◌, ◌++◌, ◌∷◌, [], suc, length, get_or, refl, ap, sym, ◌∙◌, arith, option_map}
-use Rattle.std.specs.Map.Iter.{deref_pair}
+use Rattle.std.proofs.Common.{◌++◌, ◌∷◌, [], get_or, refl, ap, sym, ◌∙◌, arith}
 use Rattle.tp_value.specs.declared.path.Path.{Path}
-use Rattle.tp_store.specs.Nodes.{edges_in, nodes_in, routes, path_of, path_along}
-use Rattle.tp_store.proofs.Routes.{root_route, route_at, rooted_at}
-use Rattle.tp_store.proofs.Ways.{keys_at}
+use Rattle.tp_store.specs.Nodes.{edges_in, routes, path_of, path_along}
+use Rattle.tp_store.proofs.Routes.{root_route}
 use Rattle.tp_store.proofs.Trees.{path_on}
 use Rattle.tp_store.proofs.Growth.{length_nodes}
 use Rattle.tp_store.proofs.nodes.Nodes.+owner.Goals as goal
 
 pub returns-then-edge-eq0 : goal.returns-then-edge-eq0
 returns-then-edge-eq0 t c = λ b.
-    let t' = c.args.self.now in
-    let es = edges_in t' in
-    let e = c.in-Some.edge.now in
-    let there = keys_at t'.below.entries (c.args.number - 1) (e, c.in-Some.field-0-1.now) (sym c.get_index.ensures.entry ∙ ap (option_map deref_pair) c.in-Some.is) in
-    let more : c.args.number ≡ suc (c.args.number - 1) = omega (arith, c.requires.below) in
-    sym (ap (λ r. (path_of b r).var.number) (ap (λ n. get_or (routes es) n []) more ∙ route_at es (c.args.number - 1) e c.requires.tree.rooted there
-    ∙ ap (λ r. r ++ e.index ∷ []) (ap (λ n. get_or (routes es) n []) c.if-edge-eq0.true ∙ root_route es)))
-
-pub owner-requires : goal.owner-requires
-owner-requires t c =
-    let t' = c.args.self.now in
-    let e = c.in-Some.edge.now in
-    let there = keys_at t'.below.entries (c.args.number - 1) (e, c.in-Some.field-0-1.now) (sym c.get_index.ensures.entry ∙ ap (option_map deref_pair) c.in-Some.is) in
-    let from = rooted_at 1 (edges_in t') (c.args.number - 1) e c.requires.tree.rooted there in
-    let low : e.node < c.args.number = omega (arith, from, c.requires.below) in
-    let within : e.node < length (nodes_in t') = omega (arith, low, c.requires.within) in
-    let some : 0 < e.node = omega (arith, c.if-edge-eq0.false) in
-    search (rules, low, within, some, c.requires.tree)
+    let es = edges_in c.args.self.now in
+    let e = c.edge_to-edge.result in
+    sym (ap (λ r. (path_of b r).var.number) (c.edge_to-edge.ensures.route ∙ ap (λ r. r ++ e.index ∷ []) (ap (λ n. get_or (routes es) n []) c.if-edge-eq0.true ∙ root_route es)))
 
 pub returns : goal.returns
 returns t c = λ b.
     let t' = c.args.self.now in
     let es = edges_in t' in
-    let e = c.in-Some.edge.now in
-    let there = keys_at t'.below.entries (c.args.number - 1) (e, c.in-Some.field-0-1.now) (sym c.get_index.ensures.entry ∙ ap (option_map deref_pair) c.in-Some.is) in
-    let more : c.args.number ≡ suc (c.args.number - 1) = omega (arith, c.requires.below) in
-    let from = rooted_at 1 es (c.args.number - 1) e c.requires.tree.rooted there in
+    let e = c.edge_to-edge.result in
     let outer = path_of b (get_or (routes es) e.node []) in
-    let on = path_on b es e.node e.index (omega (arith, c.if-edge-eq0.false)) (omega (arith, from, c.requires.within, length_nodes t')) outer (path_along outer.var (outer.at ++ e.index ∷ [])) refl refl in
-    c.owner.ensures b ∙ ap (λ (p : Path). p.var.number) on
-    ∙ sym (ap (λ r. (path_of b r).var.number) (ap (λ n. get_or (routes es) n []) more ∙ route_at es (c.args.number - 1) e c.requires.tree.rooted there))
+    let on = path_on b es e.node e.index (omega (arith, c.if-edge-eq0.false)) (omega (arith, c.edge_to-edge.ensures.before, c.requires.within, length_nodes t')) outer (path_along outer.var (outer.at ++ e.index ∷ [])) refl refl in
+    c.owner.ensures b ∙ ap (λ (p : Path). p.var.number) on ∙ sym (ap (λ r. (path_of b r).var.number) c.edge_to-edge.ensures.route)

@@ -1,22 +1,18 @@
-use Rattle.std.proofs.Common.{◌≡◌, sym, ◌∙◌, arith}
-use Rattle.tp_store.specs.Nodes.{nodes_in, beyond_among}
-use Rattle.tp_store.proofs.Ways.{shape_of_node, beyond_of_node}
-use Rattle.tp_store.proofs.Growth.{set_raised, high_enough}
+use Rattle.std.proofs.Common.{◌-◌, Some, refl, ap, sym, ◌∙◌, arith}
+use Rattle.std.specs.Option.{option_copied_mut}
+use Rattle.indexmap.specs.IndexMap.{with_value_at}
+use Rattle.tp_store.specs.declared.nodes.Node.{Node}
+use Rattle.tp_store.specs.declared.nodes.Nodes.{Nodes}
+use Rattle.tp_store.proofs.Ways.{keys_set}
+use Rattle.tp_store.proofs.Growth.{node_below, written, set_raised}
 use Rattle.tp_store.proofs.nodes.Nodes.raise.Goals as goal
 
-pub returns-then-parent-beyond : goal.returns-then-parent-beyond
-returns-then-parent-beyond c =
+pub returns-in-Some : goal.returns-in-Some
+returns-in-Some c =
     let old = c.args.self.now in
-    let ns = nodes_in old in
-    let there = sym c.node.ensures ∙ c.in-Some.is in
-    let b : beyond_among ns c.args.node ≡ c.in-Some.parent.beyond = beyond_of_node ns c.args.node c.in-Some.parent there in
-    set_raised old c.set.new.self c.args.node _ c.requires.tree c.set.ensures.edges c.set.ensures.nodes c.set.ensures.places (omega (arith, b, c.if-parent-beyond.true)) c.args.index c.requires.from
-    (sym (shape_of_node ns c.args.node c.in-Some.parent there)) (omega arith)
-
-pub returns-else-parent-beyond : goal.returns-else-parent-beyond
-returns-else-parent-beyond c =
-    let old = c.args.self.now in
-    let ns = nodes_in old in
-    let there = sym c.node.ensures ∙ c.in-Some.is in
-    let b : beyond_among ns c.args.node ≡ c.in-Some.parent.beyond = beyond_of_node ns c.args.node c.in-Some.parent there in
-    high_enough old c.args.node c.args.index c.requires.tree (omega (arith, b, c.if-parent-beyond.false))
+    let kept = c.in-Some.kept.now in
+    let now : Node = record { shape = kept.shape; beyond = c.max-kept.result } in
+    let new : Nodes = record { below = with_value_at old.below (c.args.node - 1) now; places = old.places } in
+    let there = node_below old c.args.node (Some kept) c.requires.below (sym c.get_index_mut.ensures.value ∙ ap option_copied_mut c.in-Some.is) in
+    set_raised old new c.args.node c.args.index kept now c.requires.tree there refl (keys_set old.below.entries (c.args.node - 1) now) (written old c.args.node now c.requires.below) refl
+    (omega (arith, c.max-kept.ensures)) (omega (arith, c.max-kept.ensures))

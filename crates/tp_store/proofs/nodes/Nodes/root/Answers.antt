@@ -4,7 +4,7 @@ use Rattle.std.proofs.lemmas.Option.{slice_get_within, slice_get-get_or}
 use Rattle.tp_store.specs.declared.nodes.Edge.{Edge}
 use Rattle.tp_store.specs.Nodes.{edges_in, edge, child}
 use Rattle.tp_store.proofs.Routes.{child_there}
-use Rattle.tp_store.proofs.Ways.{keys_at, keys_past}
+use Rattle.tp_store.proofs.Ways.{keys_at}
 use Rattle.tp_store.proofs.Growth.{no_root}
 use Rattle.tp_store.proofs.nodes.Nodes.root.Goals as goal
 use Rattle.tp_store.proofs.nodes.Nodes.root.Goals.{else-edge-eq0-via-then-edge-eq0+else-edge-number, else-edge-eq0-via-else-edge-eq0}
@@ -20,7 +20,7 @@ pub returns-in_default : goal.returns-in_default
 returns-in_default c =
     let t = c.args.self.now in
     let here : slice_get t.places.items c.args.number ≡ Some c.index-place.result.now = slice_get-get_or t.places.items c.args.number _ (omega (arith, c.if-number-len.false, t.places.ok.0)) ∙ ap Some (sym c.index-place.ensures) in
-    let past = keys_past t.below.entries c.index-place.result.now (sym c.get_index.ensures.entry ∙ ap (option_map deref_pair) c.in_default.is) in
+    let past = keys_at t.below.entries c.index-place.result.now None (sym c.get_index.ensures.entry ∙ ap (option_map deref_pair) c.in_default.is) in
     sym (no_root (edges_in t) t.places.items c.args.number c.requires.placed (λ i r e.
     let z : Some i ≡ Some c.index-place.result.now = sym r ∙ here in
     let same : i ≡ c.index-place.result.now = cc z in
@@ -31,7 +31,7 @@ pub returns-then-edge-number : goal.returns-then-edge-number
 returns-then-edge-number c =
     let t = c.args.self.now in
     let e = c.in-Some.edge.now in
-    let there = keys_at t.below.entries c.index-place.result.now (e, c.in-Some.field-0-1.now) (sym c.get_index.ensures.entry ∙ ap (option_map deref_pair) c.in-Some.is) in
+    let there = keys_at t.below.entries c.index-place.result.now (Some (e, c.in-Some.field-0-1.now)) (sym c.get_index.ensures.entry ∙ ap (option_map deref_pair) c.in-Some.is) in
     let next : c.index-place.result.now + 1 ≡ suc c.index-place.result.now = omega arith in
     ap Some next ∙ sym (child_there (edges_in t) c.index-place.result.now e c.len-count.ensures.unique there)
     ∙ ap₂ (child (edges_in t)) c.if-edge-eq0.true c.if-edge-number.true
@@ -41,7 +41,7 @@ returns-else-edge-eq0 c =
     let t = c.args.self.now in
     let e = c.in-Some.edge.now in
     let here : slice_get t.places.items c.args.number ≡ Some c.index-place.result.now = slice_get-get_or t.places.items c.args.number _ (omega (arith, c.if-number-len.false, t.places.ok.0)) ∙ ap Some (sym c.index-place.ensures) in
-    let there = keys_at t.below.entries c.index-place.result.now (e, c.in-Some.field-0-1.now) (sym c.get_index.ensures.entry ∙ ap (option_map deref_pair) c.in-Some.is) in
+    let there = keys_at t.below.entries c.index-place.result.now (Some (e, c.in-Some.field-0-1.now)) (sym c.get_index.ensures.entry ∙ ap (option_map deref_pair) c.in-Some.is) in
     sym (no_root (edges_in t) t.places.items c.args.number c.requires.placed (λ i r q.
     let z : Some i ≡ Some c.index-place.result.now = sym r ∙ here in
     let same : i ≡ c.index-place.result.now = cc z in
