@@ -12,7 +12,7 @@ ghost use Rattle.tp_store.specs.Changes.{IsSoundStore, AddsFacts, HaveSameShapes
 use crate::fact_map::FactMap;
 use crate::full::{go_to, item_path};
 use crate::store::{Store, part};
-use std::alloc::{AllocError, AllocFailed, Global};
+use std::alloc::Global;
 use std::rc::Rc;
 use tp_value::{Fact, Facts, NoMemory, Path, Shape, Value, VarId, is_within_list_limit};
 
@@ -31,30 +31,6 @@ impl From<NoMemory> for AddRefusal {
     ghost from_gives = { λ e r. r ≡ refusal.NoMemory };
 
     fn from(_: NoMemory) -> AddRefusal {
-        AddRefusal::NoMemory
-    }
-}
-
-impl From<AllocError> for AddRefusal {
-    ghost use Rattle.std.specs.Prelude.{◌≡◌};
-    ghost use Rattle.tp_store.specs.declared.add.AddRefusal.{AddRefusal};
-    ghost use Rattle.tp_store.specs.declared.add.AddRefusal.TheVariants as refusal;
-
-    ghost from_gives = { λ e r. r ≡ refusal.NoMemory };
-
-    fn from(_: AllocError) -> AddRefusal {
-        AddRefusal::NoMemory
-    }
-}
-
-impl<T: Drop> From<AllocFailed<T>> for AddRefusal {
-    ghost use Rattle.std.specs.Prelude.{◌≡◌};
-    ghost use Rattle.tp_store.specs.declared.add.AddRefusal.{AddRefusal};
-    ghost use Rattle.tp_store.specs.declared.add.AddRefusal.TheVariants as refusal;
-
-    ghost from_gives = { λ e r. r ≡ refusal.NoMemory };
-
-    fn from(_: AllocFailed<T>) -> AddRefusal {
         AddRefusal::NoMemory
     }
 }
