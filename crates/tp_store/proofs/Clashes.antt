@@ -91,3 +91,7 @@ module _ (b : Bool) (es : List Edge) (ns : List Node) (r : IsRooted 1 es) (d : I
   free_clash bounds none lacks has =
       apart_from_all (facts_along b (routes es) ns) f (kept_is b es ns r d long f.path v ∙ none) (sym (lacks_is b es ns r d long f.path v n) ∙ lacks)
       (none_beyond b es ns r d long f v bounds has)
+
+  -- where the path leads to no node
+  pub gone_clash : AreBeyond es ns → node_from es (way_of f.path) 0 ≡ None → lacks_path es ns f.path ≡ false → first_clash (facts_along b (routes es) ns) f ≡ None
+  gone_clash bounds gone lacks = free_clash bounds (ap (shape_found ns) gone) lacks (λ i way k low. let z : None ≡ Some i = sym gone ∙ way in absurd (cc z))
