@@ -106,18 +106,21 @@ module _ (es : List Entry) (m n : FactsOfKind) (v : Contents) (e : contents_of e
   pub sound_view : IsSoundStore v
   sound_view = let P : Contents → Type 0 = λ s. IsSoundStore s in subst P e (sound es m n h)
 
-  pub kept_view : (p : Path) → kept_shape (part_by_kind p.var.lasting m n).facts p ≡ kept_shape v.facts p
-  kept_view p =
-      sym (same_kept (m.facts ++ n.facts) (part_by_kind p.var.lasting m n).facts p (part_apart m n h.state_facts h.static_facts p.var.lasting) (part_agrees m n h.state_facts h.static_facts p.var.lasting p.var refl))
+  pub kept_view : (p : Path) (q : FactsOfKind) → q ≡ part_by_kind p.var.lasting m n → kept_shape q.facts p ≡ kept_shape v.facts p
+  kept_view p q part =
+      ap (λ (r : FactsOfKind). kept_shape r.facts p) part
+      ∙ sym (same_kept (m.facts ++ n.facts) (part_by_kind p.var.lasting m n).facts p (part_apart m n h.state_facts h.static_facts p.var.lasting) (part_agrees m n h.state_facts h.static_facts p.var.lasting p.var refl))
       ∙ ap (λ (s : Contents). kept_shape s.facts p) e
 
-  pub excluded_view : (p : Path) → is_excluded (part_by_kind p.var.lasting m n).facts p ≡ is_excluded v.facts p
-  excluded_view p =
-      sym (same_excluded (m.facts ++ n.facts) (part_by_kind p.var.lasting m n).facts p (part_agrees m n h.state_facts h.static_facts p.var.lasting p.var refl)) ∙ ap (λ (s : Contents). is_excluded s.facts p) e
+  pub excluded_view : (p : Path) (q : FactsOfKind) → q ≡ part_by_kind p.var.lasting m n → is_excluded q.facts p ≡ is_excluded v.facts p
+  excluded_view p q part =
+      ap (λ (r : FactsOfKind). is_excluded r.facts p) part
+      ∙ sym (same_excluded (m.facts ++ n.facts) (part_by_kind p.var.lasting m n).facts p (part_agrees m n h.state_facts h.static_facts p.var.lasting p.var refl)) ∙ ap (λ (s : Contents). is_excluded s.facts p) e
 
-  pub full_view : (p : Path) → full (part_by_kind p.var.lasting m n).facts p ≡ full v.facts p
-  full_view p =
-      sym (same_full (m.facts ++ n.facts) (part_by_kind p.var.lasting m n).facts p (part_apart m n h.state_facts h.static_facts p.var.lasting) (part_agrees m n h.state_facts h.static_facts p.var.lasting p.var refl))
+  pub full_view : (p : Path) (q : FactsOfKind) → q ≡ part_by_kind p.var.lasting m n → full q.facts p ≡ full v.facts p
+  full_view p q part =
+      ap (λ (r : FactsOfKind). full r.facts p) part
+      ∙ sym (same_full (m.facts ++ n.facts) (part_by_kind p.var.lasting m n).facts p (part_apart m n h.state_facts h.static_facts p.var.lasting) (part_agrees m n h.state_facts h.static_facts p.var.lasting p.var refl))
       ∙ ap (λ (s : Contents). full s.facts p) e
 
   pub addition_view : (b : Bool) (x : VarId) (fs : List Fact) → x.lasting ≡ b → AreOf x fs → addition (part_by_kind b m n).facts fs ≡ addition v.facts fs
@@ -251,6 +254,11 @@ swap_kinds : {A B : Type 0} → A ⊎ B → B ⊎ A
 swap_kinds (inl a) = inr a
 swap_kinds (inr b) = inl b
 
+part_grown : (b : Bool) (m o : FactsOfKind) → IsPart b m → o.lasting ≡ m.lasting → AreOfKind o.lasting o.facts → NoClash o.facts → IsPart b o
+part_grown b m o p kind of_kind apart =
+    let same = kind ∙ p.kind in
+    record { kind = same; of_kind = subst (λ c. AreOfKind c o.facts) same of_kind; apart = apart }
+
 -- the variables of what is kept then
 kept_variables : (xs : List Variable) (x : VarId) (old news new : List Fact) → IsVariableOf xs x → AreOf x news → NoClash new → HaveSameShapes new (old ++ news)
     → ((f : Fact) → In f old → IsVariableOf xs f.path.var) → (f : Fact) → In f new → IsVariableOf xs f.path.var
@@ -259,21 +267,24 @@ kept_variables xs x old news new k a n s h f i =
     let P : VarId → Type 0 = λ y. IsVariableOf xs y in
     elim (in_append f old news there) [ inl j ↦ h f j | inr j ↦ subst P (sym (of_in x news a f j)) k ]
 
-module _ (es : List Entry) (m n : FactsOfKind) (v : Contents) (e : contents_of es m n ≡ v) (h : AreParts es m n) (x : VarId) (news : List Fact) (k : IsVariableOf v.variables x) (a : AreOf x news) where
+module _ (es : List Entry) (m n : FactsOfKind) (v : Contents) (e : contents_of es m n ≡ v) (h : AreParts es m n) (x : VarId) (facts news : List Fact) (k : IsVariableOf v.variables x) (filed : AreOf x facts) where
   is_variable : IsVariableOf (variables_in es) x
   is_variable = let P : Contents → Type 0 = λ s. IsVariableOf s.variables x in subst P (sym e) k
 
   old_variables : (f : Fact) → In f (m.facts ++ n.facts) → IsVariableOf (variables_in es) f.path.var
   old_variables = variables_each (variables_in es) (m.facts ++ n.facts) h.of_variables
 
-  module _ (o : FactsOfKind) (kind : o.lasting ≡ false) (of_kind : AreOfKind false o.facts) (apart : NoClash o.facts) (s : HaveSameShapes o.facts (m.facts ++ news)) (lasting : x.lasting ≡ false) where
+  module _ (o : FactsOfKind) (added : addition m.facts facts ≡ adds news) (kind : o.lasting ≡ m.lasting) (of_kind : AreOfKind o.lasting o.facts) (apart : NoClash o.facts) (s : HaveSameShapes o.facts (m.facts ++ news)) (lasting : x.lasting ≡ false) where
+    state_news : AreOf x news
+    state_news = news_of x m.facts facts news added filed
+
     pub state_grown : AreParts es o n
     state_grown = record {
-      state_facts = record { kind = kind; of_kind = of_kind; apart = apart };
+      state_facts = part_grown false m o h.state_facts kind of_kind apart;
       static_facts = h.static_facts;
       of_variables = variables_from (variables_in es) (o.facts ++ n.facts) (λ f i.
           elim (in_append f o.facts n.facts i) [
-            | inl j ↦ kept_variables (variables_in es) x m.facts news o.facts is_variable a apart s (λ g l. old_variables g (in_left g m.facts n.facts l)) f j
+            | inl j ↦ kept_variables (variables_in es) x m.facts news o.facts is_variable state_news apart s (λ g l. old_variables g (in_left g m.facts n.facts l)) f j
             | inr j ↦ old_variables f (in_right f m.facts n.facts j)
           ]);
     }
@@ -282,21 +293,24 @@ module _ (es : List Entry) (m n : FactsOfKind) (v : Contents) (e : contents_of e
     state_adds = record {
       shapes = λ p.
           kept_shape-append o.facts n.facts p ∙ ap (λ y. or_else y (kept_shape n.facts p)) (s p ∙ kept_shape-append m.facts news p)
-          ∙ or_else-swap (kept_shape m.facts p) (kept_shape news p) (kept_shape n.facts p) (swap_kinds (kinds_differ news n.facts p (kind_of x false news lasting a) h.static_facts.of_kind))
+          ∙ or_else-swap (kept_shape m.facts p) (kept_shape news p) (kept_shape n.facts p) (swap_kinds (kinds_differ news n.facts p (kind_of x false news lasting state_news) h.static_facts.of_kind))
           ∙ ap (λ y. or_else y (kept_shape news p)) (sym (kept_shape-append m.facts n.facts p)) ∙ sym (kept_shape-append (m.facts ++ n.facts) news p)
           ∙ ap (λ (c : Contents). kept_shape (c.facts ++ news) p) e;
       variables = ap (λ (c : Contents). c.variables) e;
     }
 
-  module _ (o : FactsOfKind) (kind : o.lasting ≡ true) (of_kind : AreOfKind true o.facts) (apart : NoClash o.facts) (s : HaveSameShapes o.facts (n.facts ++ news)) where
+  module _ (o : FactsOfKind) (added : addition n.facts facts ≡ adds news) (kind : o.lasting ≡ n.lasting) (of_kind : AreOfKind o.lasting o.facts) (apart : NoClash o.facts) (s : HaveSameShapes o.facts (n.facts ++ news)) where
+    static_news : AreOf x news
+    static_news = news_of x n.facts facts news added filed
+
     pub static_grown : AreParts es m o
     static_grown = record {
       state_facts = h.state_facts;
-      static_facts = record { kind = kind; of_kind = of_kind; apart = apart };
+      static_facts = part_grown true n o h.static_facts kind of_kind apart;
       of_variables = variables_from (variables_in es) (m.facts ++ o.facts) (λ f i.
           elim (in_append f m.facts o.facts i) [
             | inl j ↦ old_variables f (in_left f m.facts n.facts j)
-            | inr j ↦ kept_variables (variables_in es) x n.facts news o.facts is_variable a apart s (λ g l. old_variables g (in_right g m.facts n.facts l)) f j
+            | inr j ↦ kept_variables (variables_in es) x n.facts news o.facts is_variable static_news apart s (λ g l. old_variables g (in_right g m.facts n.facts l)) f j
           ]);
     }
 

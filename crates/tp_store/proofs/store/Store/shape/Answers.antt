@@ -1,13 +1,9 @@
-use Rattle.std.proofs.Common.{ap, ◌∙◌}
-use Rattle.tp_store.specs.Facts.{kept_shape}
-use Rattle.tp_store.specs.FactMap.{FactsOfKind}
+use Rattle.std.proofs.Common.{◌∙◌}
 use Rattle.tp_store.proofs.Parts.{sound_view, kept_view}
 use Rattle.tp_store.proofs.store.Store.shape.Goals as goal
 
 pub returns-clause-value : goal.returns-clause-value
-returns-clause-value c =
-    c.shape.ensures ∙ ap (λ (m : FactsOfKind). kept_shape m.facts c.args.path.now) c.part.ensures
-    ∙ kept_view c.self.inside.entries.items c.self.inside.state c.self.inside.fixed _ c.self.view_is c.self.invariant c.args.path.now
+returns-clause-value c = c.shape.ensures ∙ kept_view c.self.inside.entries.items c.self.inside.state c.self.inside.fixed _ c.self.view_is c.self.invariant c.args.path.now _ c.part.ensures
 
 pub returns-clause-sound : goal.returns-clause-sound
 returns-clause-sound c = sound_view c.self.inside.entries.items c.self.inside.state c.self.inside.fixed _ c.self.view_is c.self.invariant
