@@ -1,67 +1,28 @@
 -- The numbers of regions stand once: what is so of a live region by its number is so of each live region with that number.
 use Rattle.std.proofs.Common.{◌≡◌, ◌⊎◌, inl, inr, ℕ, ◌+◌, ◌≤◌, Bool, true, false, List, ◌∷◌, eqb, refl, sym, ◌∙◌, subst, arith}
 use Rattle.std.proofs.lemmas.Bool.{cases_Bool, both_ways, eqb-true, eq-eqb}
-use Rattle.tp_scene.specs.Scene.{Side, Head, Entries, none, leaf, node, Scene, second_lives, Place, root_place, held_place, second_place}
-use Rattle.tp_scene.specs.Regions.{Role, HoldsRegion, by_split, by_split_project, by_closed, by_opened, by_running, by_running_second, past_leaf, past_node, LiveRegion, the_root, the_held}
-use Rattle.tp_scene.specs.RegionLaws.{place_through, computed_place}
+use Rattle.tp_scene.specs.Scene.{Side, Head, Entries, none, leaf, node, Scene, Place, root_place, held_place, second_place}
+use Rattle.tp_scene.specs.Regions.{LiveRegion, the_root, the_held}
+use Rattle.tp_scene.specs.RegionLaws.{computed_place}
 use Rattle.tp_scene.specs.Pick.{Setting, Moment}
 use Rattle.tp_scene.specs.Fits.{region_numbers}
 use Rattle.tp_scene.specs.Laws.{IsSound}
 use Rattle.tp_scene.proofs.Count.{one_if, count_first, one_there, numbers_once}
 use Rattle.tp_scene.proofs.PutNumbers.{regions, regions_node}
-use Rattle.tp_scene.proofs.Standing.{live_number, StandsIn, standing_from_root}
+use Rattle.tp_scene.proofs.Standing.{live_number, HeldIn, held_counted, held_around, standing_from_root}
 use Rattle.tp_scene.proofs.KnownEnds.{KnownAt, number_in}
 use Rattle.tp_step_laws.specs.Near.{StandsAround, OneStandsAround}
 
 -- Said of a property of the place of a region around, and of that of the region held in it.
 module _ (P : Place → Place → Type 0) where
-  -- such a live region stands in entries of a region of that place
-  abbrev HeldIn : Entries → Place → Type 0
-  HeldIn none p = ⊥
-  HeldIn (leaf id l rest) p = HeldIn rest p
-  HeldIn (node id k h held g second rest) p =
-      (P p (held_place k h held p) ⊎ HeldIn held (held_place k h held p))
-      ⊎ (((second_lives k ≡ true) × (P p (second_place g second p) ⊎ HeldIn second (second_place g second p))) ⊎ HeldIn rest p)
+  at_counted : (r : ℕ) → ((a q : Place) → P a q → q.region ≡ r) → (a q : Place) (es : Entries) → P a q ⊎ HeldIn P es q → 1 ≤ one_if r q.region + regions r es
+  at_counted r of a q es (inl u) = let o = one_there r q.region (sym (of a q u)) in omega (arith, o)
+  at_counted r of a q es (inr u) = let i = held_counted P r of es q u in omega (arith, i)
 
-  -- where it is of held regions of one number, that is counted
-  module _ (r : ℕ) (of : (a q : Place) → P a q → q.region ≡ r) where
-    held_counted : (es : Entries) (p : Place) → HeldIn es p → 1 ≤ regions r es
-    held_counted none p x = absurd x
-    held_counted (leaf id l rest) p x = held_counted rest p x
-    held_counted (node id k h held g second rest) p x =
-        let n = regions_node r id k h held g second rest in
-        elim x [
-          | inl y ↦ elim y [
-            | inl u ↦ (let o = one_there r h.number (sym (of _ _ u)) in omega (arith, n, o))
-            | inr u ↦ (let i = held_counted held _ u in omega (arith, n, i))
-          ]
-          | inr y ↦ elim y [
-            | inl v ↦ (let live = live_number r k g v.0 in elim (v.1) [
-              | inl u ↦ (let o = one_there r g.number (sym (of _ _ u)) in omega (arith, n, live, o))
-              | inr u ↦ (let i = held_counted second _ u in omega (arith, n, i))
-            ])
-            | inr v ↦ (let i = held_counted rest p v in omega (arith, n, i))
-          ]
-        ]
-
-    at_counted : (a q : Place) (es : Entries) → P a q ⊎ HeldIn es q → 1 ≤ one_if r q.region + regions r es
-    at_counted a q es (inl u) = let o = one_there r q.region (sym (of a q u)) in omega (arith, o)
-    at_counted a q es (inr u) = let i = held_counted es q u in omega (arith, i)
-
-  -- what is so of a region that an item holds, or in it, is so around it, and so in the scene
-  held_around : (p : Place) (es : Entries) (role : Role) (i : Head) (held : Entries) (in_it : HoldsRegion es role i held) → P p (place_through in_it p) ⊎ HeldIn held (place_through in_it p) → HeldIn es p
-  held_around p _ _ _ _ by_split x = inl x
-  held_around p _ _ _ _ by_split_project x = inl x
-  held_around p _ _ _ _ by_closed x = inl x
-  held_around p _ _ _ _ by_opened x = inl x
-  held_around p _ _ _ _ by_running x = inl x
-  held_around p _ _ _ _ by_running_second x = inr (inl (refl, x))
-  held_around p _ role i held (past_leaf in_it) x = held_around p _ role i held in_it x
-  held_around p _ role i held (past_node in_it) x = inr (inr (held_around p _ role i held in_it x))
-
-  held_from_root : (s : Scene) (h : Head) (es : Entries) (x : LiveRegion s h es) → HeldIn es (computed_place x) → HeldIn s.root.entries (root_place s.root)
+  -- what is so in a live region is so in the scene
+  held_from_root : (s : Scene) (h : Head) (es : Entries) (x : LiveRegion s h es) → HeldIn P es (computed_place x) → HeldIn P s.root.entries (root_place s.root)
   held_from_root s _ _ the_root y = y
-  held_from_root s _ _ (the_held {h = h} {es = es} {role = role} {i = i} {held = held} x in_it) y = held_from_root s h es x (held_around (computed_place x) es role i held in_it (inr y))
+  held_from_root s _ _ (the_held {h = h} {es = es} {role = role} {i = i} {held = held} x in_it) y = held_from_root s h es x (held_around P (computed_place x) es role i held in_it (inr y))
 
 -- Two properties that exclude each other aren't both of regions of one number that stands once.
 module _ (P Q : Place → Place → Type 0) (r : ℕ) (of : (a q : Place) → P a q → q.region ≡ r) (also : (a q : Place) → Q a q → q.region ≡ r) (apart : (a b q : Place) → P a q → Q b q → a ≡ b → ⊥) where
@@ -104,18 +65,6 @@ module _ (P Q : Place → Place → Type 0) (r : ℕ) (of : (a q : Place) → P 
         ]
       ]
 
--- a property of a region's own place
-standing_held : (P : Place → Type 0) (es : Entries) (p : Place) → StandsIn P es p → HeldIn (λ a q. P q) es p
-standing_held P none p x = x
-standing_held P (leaf id l rest) p x = standing_held P rest p x
-standing_held P (node id k h held g second rest) p x = elim x [
-  | inl y ↦ inl (elim y [ inl u ↦ inl u | inr u ↦ inr (standing_held P held (held_place k h held p) u) ])
-  | inr y ↦ elim y [
-    | inl v ↦ inr (inl (v.0, elim (v.1) [ inl u ↦ inl u | inr u ↦ inr (standing_held P second (second_place g second p) u) ]))
-    | inr v ↦ inr (inr (standing_held P rest p v))
-  ]
-]
-
 abbrev pub RegionsStandOnce : Scene → Type 0
 RegionsStandOnce s = (r : ℕ) → one_if r s.root.head.number + regions r s.root.entries ≤ 1
 
@@ -139,12 +88,8 @@ module _ (s : Scene) (once : RegionsStandOnce s) (r : ℕ) (z : Side) where
         let stands = standing_from_root (Has false) s h es x (inl (number_in s h es x ∙ same, e)) in
         absurd (at_apart (λ a. Has true) (λ a. Has false) r (λ a q u. u.0) (λ a q u. u.0) (λ a b q u v _. both_ways (q.is z) v.1 u.1) root root s.root.entries most
         (held_apart (λ a. Has true) (λ a. Has false) r (λ a q u. u.0) (λ a q u. u.0) (λ a b q u v _. both_ways (q.is z) v.1 u.1) s.root.entries root (omega (arith, most)))
-        (into (Has true) known) (into (Has false) stands)))
+        known stands))
   ]
-    where
-      into : (P : Place → Type 0) → P (root_place s.root) ⊎ StandsIn P s.root.entries (root_place s.root) → P (root_place s.root) ⊎ HeldIn (λ a. P) s.root.entries (root_place s.root)
-      into P (inl u) = inl u
-      into P (inr u) = inr (standing_held P s.root.entries (root_place s.root) u)
 
 -- no region stands around itself
 module _ (r : ℕ) where
