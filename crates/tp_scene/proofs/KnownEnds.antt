@@ -73,63 +73,59 @@ module _ (facts : List Fact) where
     rest_once : StandsOnce rest p
     rest_once x = let o = once x in let n = regions_node x id k h held g second rest in omega (arith, o, n)
 
+    -- what is open in a part is open in all, where what would make it known is known in the part
+    from_part : (part : Entries) (in_part : Place)
+        → ((r : ℕ) → one_if r in_part.region + regions r part ≤ one_if r p.region + regions r (node id k h held g second rest))
+        → ((r : ℕ) (z : Side) → 1 ≤ one_if r in_part.region + regions r part → KnownAt r z (node id k h held g second rest) p → KnownAt r z part in_part)
+        → (c : Cell) → IsOpenIn part in_part c → IsOpenIn (node id k h held g second rest) p c
+    from_part part in_part more known (Part x) u = u
+    from_part part in_part more known (End r depth) u = (let m = more r in omega (arith, m, u.0), λ z all. u.1 z (known r z u.0 all))
+
     from_held : (c : Cell) → IsOpenIn held q c → IsOpenIn (node id k h held g second rest) p c
-    from_held (Part x) u = u
-    from_held (End r depth) u =
+    from_held = from_part held q (λ r. let n = regions_node r id k h held g second rest in omega (arith, n)) (λ r z here known.
         let n = regions_node r id k h held g second rest in
-        let here = u.0 in
-        let most = once r in (
-          omega (arith, n, here),
-          λ z known. elim known [
-            | inl a ↦ (let o = one_there r p.region (sym a.0) in omega (arith, n, o, here, most))
-            | inr a ↦ elim a [
-              | inl b ↦ u.1 z b
-              | inr b ↦ elim b [
-                | inl d ↦ (let l = live_number r k g d.0 in let i = at_counted r z second s d.1 in omega (arith, n, l, i, here, most))
-                | inr d ↦ (let i = known_counted r z rest p d in omega (arith, n, i, here, most))
-              ]
+        let most = once r in
+        elim known [
+          | inl a ↦ absurd (let o = one_there r p.region (sym a.0) in omega (arith, n, o, here, most))
+          | inr a ↦ elim a [
+            | inl b ↦ b
+            | inr b ↦ elim b [
+              | inl d ↦ absurd (let l = live_number r k g d.0 in let i = at_counted r z second s d.1 in omega (arith, n, l, i, here, most))
+              | inr d ↦ absurd (let i = known_counted r z rest p d in omega (arith, n, i, here, most))
             ]
-          ],
-        )
+          ]
+        ])
 
     from_second : second_lives k ≡ true → (c : Cell) → IsOpenIn second s c → IsOpenIn (node id k h held g second rest) p c
-    from_second live (Part x) u = u
-    from_second live (End r depth) u =
+    from_second live = from_part second s (λ r. let n = regions_node r id k h held g second rest in let l = live_number r k g live in omega (arith, n, l)) (λ r z here known.
         let n = regions_node r id k h held g second rest in
         let l = live_number r k g live in
-        let here = u.0 in
-        let most = once r in (
-          omega (arith, n, l, here),
-          λ z known. elim known [
-            | inl a ↦ (let o = one_there r p.region (sym a.0) in omega (arith, n, l, o, here, most))
-            | inr a ↦ elim a [
-              | inl b ↦ (let i = at_counted r z held q b in omega (arith, n, l, i, here, most))
-              | inr b ↦ elim b [
-                | inl d ↦ u.1 z d.1
-                | inr d ↦ (let i = known_counted r z rest p d in omega (arith, n, l, i, here, most))
-              ]
+        let most = once r in
+        elim known [
+          | inl a ↦ absurd (let o = one_there r p.region (sym a.0) in omega (arith, n, l, o, here, most))
+          | inr a ↦ elim a [
+            | inl b ↦ absurd (let i = at_counted r z held q b in omega (arith, n, l, i, here, most))
+            | inr b ↦ elim b [
+              | inl d ↦ d.1
+              | inr d ↦ absurd (let i = known_counted r z rest p d in omega (arith, n, l, i, here, most))
             ]
-          ],
-        )
+          ]
+        ])
 
     from_rest : (c : Cell) → IsOpenIn rest p c → IsOpenIn (node id k h held g second rest) p c
-    from_rest (Part x) u = u
-    from_rest (End r depth) u =
+    from_rest = from_part rest p (λ r. let n = regions_node r id k h held g second rest in omega (arith, n)) (λ r z here known.
         let n = regions_node r id k h held g second rest in
-        let here = u.0 in
-        let most = once r in (
-          omega (arith, n, here),
-          λ z known. elim known [
-            | inl a ↦ u.1 z (inl a)
-            | inr a ↦ elim a [
-              | inl b ↦ (let i = at_counted r z held q b in omega (arith, n, i, here, most))
-              | inr b ↦ elim b [
-                | inl d ↦ (let l = live_number r k g d.0 in let i = at_counted r z second s d.1 in omega (arith, n, l, i, here, most))
-                | inr d ↦ u.1 z (inr d)
-              ]
+        let most = once r in
+        elim known [
+          | inl a ↦ inl a
+          | inr a ↦ elim a [
+            | inl b ↦ absurd (let i = at_counted r z held q b in omega (arith, n, i, here, most))
+            | inr b ↦ elim b [
+              | inl d ↦ absurd (let l = live_number r k g d.0 in let i = at_counted r z second s d.1 in omega (arith, n, l, i, here, most))
+              | inr d ↦ inr d
             ]
-          ],
-        )
+          ]
+        ])
 
   -- what an outcome waits for is open
   abbrev pub WaitsOpenly : Entries → Place → PickOutcome → Type 0
