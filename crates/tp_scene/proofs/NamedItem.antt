@@ -1,11 +1,11 @@
 -- At rest the item that settling names waits.
-use Rattle.std.proofs.Common.{◌≡◌, ◌⊎◌, ℕ, ◌≤◌, Bool, true, false, ◌&&◌, eqb, List, [], ◌∷◌, ◌++◌, Option, refl, ap, sym, ◌∙◌, arith, inl, inr}
+use Rattle.std.proofs.Common.{◌≡◌, ◌⊎◌, ℕ, ◌+◌, ◌≤◌, Bool, true, false, ◌&&◌, ◌||◌, eqb, List, [], ◌∷◌, ◌++◌, Option, refl, ap, sym, ◌∙◌, arith, inl, inr}
 use Rattle.std.proofs.lemmas.Bool.{cases_Bool, cases_lt, or_cases, or_left, or_right, and_parts, and_from, eqb-true, eq-eqb, cond-true, cond-false, false_from_ne_true, false≢true}
 use Rattle.tp_value.specs.declared.path.Fact.{Fact}
 use Rattle.tp_store.specs.Known.{NoClash}
 use Rattle.tp_scene.specs.declared.answer.Cell.{Cell}
 use Rattle.tp_scene.specs.declared.answer.Cell.TheVariants.{End}
-use Rattle.tp_scene.specs.Scene.{Ending, Going, Entries, none, leaf, node, second_lives, only_if, has, Place, root_place, held_place, second_place}
+use Rattle.tp_scene.specs.Scene.{Ending, Going, Head, Leaf, Holder, Entries, none, leaf, node, second_lives, only_if, has, Place, root_place, held_place, second_place}
 use Rattle.tp_scene.specs.Step.{PickOutcome, reduces, waits, rests, clashes, misses, passes, Numbers, leaf_step}
 use Rattle.tp_scene.specs.Pick.{Setting, pick, outcome_of, numbers_of, IsIdle}
 use Rattle.tp_scene.specs.Rest.{is_unsettled, holds_back, unsettled_items, Settled, waiting, end_open, ends, goes, settled_by}
@@ -75,6 +75,79 @@ pub record IsAwake (t : ℕ) (es : Entries) (o : PickOutcome) : Type 0 where
   pub lives : has t es ≡ true
   pub busy : IsBusy o
 
+module _ (w : Setting) (facts : List Fact) (t : ℕ) (n : Numbers) where
+  -- A live item stands once in these entries, and picking it is picking it in others of that place.
+  pub record LeadsTo (es : Entries) (p : Place) (inner : Entries) (q : Place) : Type 0 where
+    pub lives : has t es ≡ true
+    pub once : items t inner ≤ 1
+    pub same : pick w facts t es p n ≡ pick w facts t inner q n
+
+  pub to_rest_leaf : (id : ℕ) (l : Leaf) (rest : Entries) (p : Place) → has t rest ≡ true → items t (leaf id l rest) ≤ 1 → LeadsTo (leaf id l rest) p rest p
+  to_rest_leaf id l rest p lives most =
+      let n1 = items_leaf t id l rest in
+      let i = live_counted t rest lives in
+      record {
+        lives = or_right (eqb id t) (has t rest) lives;
+        once = omega (arith, most, n1);
+        same = cond-false (eqb id t) (leaf_step w.defs w.inputs w.state facts l p n) (pick w facts t rest p n) (another_item t id (omega (arith, most, n1, i)));
+      }
+
+  module _ (id : ℕ) (k : Holder) (h : Head) (held : Entries) (g : Head) (second rest : Entries) (p : Place) (most : items t (node id k h held g second rest) ≤ 1) where
+    abbrev whole : Entries
+    whole = node id k h held g second rest
+
+    -- where it is neither the item itself nor in a second region
+    to_later : (inner : Entries) (q : Place) → has t inner ≡ true → (has t held || has t rest) ≡ true → one_if t id + (items t second + items t inner) ≤ 1
+        → (eqb id t ≡ false → (second_lives k && has t second) ≡ false → pick w facts t whole p n ≡ pick w facts t inner q n) → LeadsTo whole p inner q
+    to_later inner q here lives few picked =
+        let i = live_counted t inner here in
+        record {
+          lives = or_right (eqb id t) _ (or_right (second_lives k && has t second) _ lives);
+          once = omega (arith, few);
+          same = picked (another_item t id (omega (arith, few, i))) (not_second (second_lives k) (has t second) (not_live t second (omega (arith, few, i))));
+        }
+
+    pub to_rest_node : has t rest ≡ true → LeadsTo whole p rest p
+    to_rest_node lives =
+        let num = items_node t id k h held g second rest in
+        let i = live_counted t rest lives in
+        to_later rest p lives (or_right (has t held) _ lives) (omega (arith, most, num))
+        (λ e l. pick_later w facts t id k h held g second rest p n e l (not_live t held (omega (arith, most, num, i))))
+
+    pub to_held : has t held ≡ true → LeadsTo whole p held (held_place k h held p)
+    to_held lives =
+        let num = items_node t id k h held g second rest in
+        to_later held (held_place k h held p) lives (or_left (has t held) _ lives) (omega (arith, most, num))
+        (λ e l. pick_first w facts t id k h held g second rest p n e l lives)
+
+    pub to_second : second_lives k ≡ true → has t second ≡ true → LeadsTo whole p second (second_place g second p)
+    to_second live lives =
+        let num = items_node t id k h held g second rest in
+        let i = live_counted t second lives in
+        let there = and_from (second_lives k) (has t second) live lives in
+        record {
+          lives = or_right (eqb id t) _ (or_left (second_lives k && has t second) _ there);
+          once = omega (arith, most, num);
+          same = pick_second w facts t id k h held g second rest p n (another_item t id (omega (arith, most, num, i))) there;
+        }
+
+  awake_through : (es : Entries) (p : Place) (inner : Entries) (q : Place) → LeadsTo es p inner q → IsBusy (pick w facts t inner q n) → IsAwake t es (pick w facts t es p n)
+  awake_through es p inner q to busy = record { lives = to.lives; busy = rw to.same busy }
+
+-- the unsettled items of a node's parts
+unsettled_node : (t id : ℕ) (k : Holder) (h : Head) (held : Entries) (g : Head) (second rest : Entries) (p : Place)
+    → count t (unsettled_items (node id k h held g second rest) p)
+    ≡ (count t (only_if (second_lives k) (unsettled_items second (second_place g second p))) + count t (unsettled_items held (held_place k h held p)))
+    + (count t (only_if (holds_back k (held_place k h held p)) (id ∷ [])) + count t (unsettled_items rest p))
+unsettled_node t id k h held g second rest p =
+    let seconds = only_if (second_lives k) (unsettled_items second (second_place g second p)) in
+    let own = only_if (holds_back k (held_place k h held p)) (id ∷ []) in
+    let inside = unsettled_items held (held_place k h held p) in
+    let c = count_append t (seconds ++ inside) (own ++ unsettled_items rest p) in
+    let c1 = count_append t seconds inside in
+    let c2 = count_append t own (unsettled_items rest p) in
+    omega (arith, c, c1, c2)
+
 module _ (w : Setting) (facts : List Fact) (apart : NoClash facts) (t : ℕ) (n : Numbers) where
   -- an unsettled item is awake
   pub unsettled_awake : (es : Entries) (p : Place) → items t es ≤ 1 → 1 ≤ count t (unsettled_items es p) → IsAwake t es (pick w facts t es p n)
@@ -91,9 +164,7 @@ module _ (w : Setting) (facts : List Fact) (apart : NoClash facts) (t : ℕ) (n 
               busy = rw (cond-true (eqb id t) s (pick w facts t rest p n) is) (busy_by facts apart (is_unsettled l) p s q.0 (leaf_answers facts apart w.defs w.inputs w.state l p n));
             })
         | inr u ↦ (let ih = unsettled_awake rest p (omega (arith, most, num)) (omega (arith, e, c, u)) in
-            let i = live_counted t rest ih.lives in
-            let no : eqb id t ≡ false = another_item t id (omega (arith, most, num, i)) in
-            record { lives = or_right (eqb id t) (has t rest) ih.lives; busy = rw (cond-false (eqb id t) s (pick w facts t rest p n) no) (ih.busy) })
+            awake_through w facts t n (leaf id l rest) p rest p (to_rest_leaf w facts t n id l rest p ih.lives most) ih.busy)
       ]
   unsettled_awake (node id k h held g second rest) p most e =
       let num = items_node t id k h held g second rest in
@@ -101,9 +172,7 @@ module _ (w : Setting) (facts : List Fact) (apart : NoClash facts) (t : ℕ) (n 
       let r = second_place g second p in
       let seconds = only_if (second_lives k) (unsettled_items second r) in
       let own = only_if (holds_back k q) (id ∷ []) in
-      let c = count_append t (seconds ++ unsettled_items held q) (own ++ unsettled_items rest p) in
-      let c1 = count_append t seconds (unsettled_items held q) in
-      let c2 = count_append t own (unsettled_items rest p) in
+      let c = unsettled_node t id k h held g second rest p in
       elim (cases_lt 0 (count t own)) [
         | inl u ↦ (let x = one_of t id (holds_back k q) (omega (arith, u)) in
             let is : eqb id t ≡ true = eq-eqb id t (sym x.1) in
@@ -113,34 +182,15 @@ module _ (w : Setting) (facts : List Fact) (apart : NoClash facts) (t : ℕ) (n 
             })
         | inr u ↦ elim (cases_lt 0 (count t (unsettled_items held q))) [
           | inl v ↦ (let ih = unsettled_awake held q (omega (arith, most, num)) (omega (arith, v)) in
-              let i = live_counted t held ih.lives in
-              let no = another_item t id (omega (arith, most, num, i)) in
-              let two = not_second (second_lives k) (has t second) (not_live t second (omega (arith, most, num, i))) in
-              record {
-                lives = or_right (eqb id t) _ (or_right (second_lives k && has t second) _ (or_left (has t held) _ ih.lives));
-                busy = rw (pick_first w facts t id k h held g second rest p n no two ih.lives) (ih.busy);
-              })
+              awake_through w facts t n (node id k h held g second rest) p held q (to_held w facts t n id k h held g second rest p most ih.lives) ih.busy)
           | inr v ↦ elim (cases_lt 0 (count t (unsettled_items rest p))) [
             | inl x ↦ (let ih = unsettled_awake rest p (omega (arith, most, num)) (omega (arith, x)) in
-                let i = live_counted t rest ih.lives in
-                let no = another_item t id (omega (arith, most, num, i)) in
-                let two = not_second (second_lives k) (has t second) (not_live t second (omega (arith, most, num, i))) in
-                let one = not_live t held (omega (arith, most, num, i)) in
-                record {
-                  lives = or_right (eqb id t) _ (or_right (second_lives k && has t second) _ (or_right (has t held) _ ih.lives));
-                  busy = rw (pick_later w facts t id k h held g second rest p n no two one) (ih.busy);
-                })
+                awake_through w facts t n (node id k h held g second rest) p rest p (to_rest_node w facts t n id k h held g second rest p most ih.lives) ih.busy)
             | inr x ↦ elim (cases_Bool (second_lives k)) [
               | inl live ↦ (let same : count t seconds ≡ count t (unsettled_items second r) = ap (λ b. count t (only_if b (unsettled_items second r))) live in
-                  let ih = unsettled_awake second r (omega (arith, most, num)) (omega (arith, e, c, c1, c2, u, v, x, same)) in
-                  let i = live_counted t second ih.lives in
-                  let no = another_item t id (omega (arith, most, num, i)) in
-                  let there = and_from (second_lives k) (has t second) live ih.lives in
-                  record {
-                    lives = or_right (eqb id t) _ (or_left (second_lives k && has t second) _ there);
-                    busy = rw (pick_second w facts t id k h held g second rest p n no there) (ih.busy);
-                  })
-              | inr sleeps ↦ absurd (let nothing : count t seconds ≡ 0 = ap (λ b. count t (only_if b (unsettled_items second r))) sleeps ∙ count_none t in omega (arith, e, c, c1, c2, u, v, x, nothing))
+                  let ih = unsettled_awake second r (omega (arith, most, num)) (omega (arith, e, c, u, v, x, same)) in
+                  awake_through w facts t n (node id k h held g second rest) p second r (to_second w facts t n id k h held g second rest p most live ih.lives) ih.busy)
+              | inr sleeps ↦ absurd (let nothing : count t seconds ≡ 0 = ap (λ b. count t (only_if b (unsettled_items second r))) sleeps ∙ count_none t in omega (arith, e, c, u, v, x, nothing))
             ]
           ]
         ]

@@ -1,11 +1,11 @@
 -- An item of a live region is picked at the region's place; and the end that it waits for is that of a live region.
 use Rattle.std.proofs.Common.{◌≡◌, ℕ, suc, ◌+◌, ◌≤◌, true, false, ◌&&◌, eqb, List, Option, Some, None, refl, sym, ◌∙◌, subst, arith}
-use Rattle.std.proofs.lemmas.Bool.{cond_both, or_left, or_right, and_parts, and_from, eq-eqb, cond-true, cond-false}
+use Rattle.std.proofs.lemmas.Bool.{cond_both, or_left, or_right, and_parts, eq-eqb, cond-true}
 use Rattle.tp_value.specs.declared.path.Fact.{Fact}
 use Rattle.tp_store.specs.Known.{NoClash}
 use Rattle.tp_scene.specs.declared.answer.Cell.{Cell}
 use Rattle.tp_scene.specs.declared.answer.Cell.TheVariants.{Part, End}
-use Rattle.tp_scene.specs.Scene.{Head, Leaf, Holder, Split, SplitProject, Closed, Opened, Running, Entries, none, leaf, node, Scene, second_lives, has, Place, root_place, held_place, second_place}
+use Rattle.tp_scene.specs.Scene.{Head, Split, SplitProject, Closed, Opened, Running, Entries, none, leaf, node, Scene, second_lives, has, Place, root_place, held_place, second_place}
 use Rattle.tp_scene.specs.Regions.{Role, HoldsRegion, by_split, by_split_project, by_closed, by_opened, by_running, by_running_second, past_leaf, past_node, LiveRegion, the_root, the_held, IsTail, all_entries, after_leaf, after_node}
 use Rattle.tp_scene.specs.RegionLaws.{place_through, computed_place}
 use Rattle.tp_scene.specs.Step.{PickOutcome, reduces, waits, rests, clashes, misses, passes, Numbers, leaf_step, holder_step}
@@ -14,10 +14,10 @@ use Rattle.tp_scene.specs.Rest.{is_unsettled, holds_back}
 use Rattle.tp_scene.specs.Fits.{item_numbers}
 use Rattle.tp_scene.specs.Seen.{PicksSeePlaces, regions_around, NamesCell, WaitedEndsAreLive}
 use Rattle.tp_scene.proofs.Frame.{region}
-use Rattle.tp_scene.proofs.Risen.{pick_here, pick_second, pick_first, pick_later}
+use Rattle.tp_scene.proofs.Risen.{pick_here}
 use Rattle.tp_scene.proofs.Count.{numbers_once}
 use Rattle.tp_scene.proofs.PutNumbers.{items, items_leaf, items_node}
-use Rattle.tp_scene.proofs.NamedItem.{live_counted, not_live, another_item, not_second}
+use Rattle.tp_scene.proofs.NamedItem.{LeadsTo, to_rest_leaf, to_rest_node, to_held, to_second}
 use Rattle.tp_scene.proofs.WaitRows.{IsOpenAt, ForOther, Answers, leaf_answers, holder_answers}
 use Rattle.tp_scene.proofs.StatusRules.{held_by}
 use Rattle.tp_scene.proofs.KnownEnds.{number_in}
@@ -36,88 +36,38 @@ lives_around t _ role i held (past_node {id = id} {k = k} {first = first} {secon
     or_right (eqb id t) _ (or_right (second_lives k && has t second) _ (or_right (has t first) _ (lives_around t rest role i held in_it e)))
 
 module _ (w : Setting) (facts : List Fact) (t : ℕ) (n : Numbers) where
-  -- A live item stands once in these entries, and picking it is picking it in others of that place.
-  record LeadsTo (es : Entries) (p : Place) (inner : Entries) (q : Place) : Type 0 where
-    lives : has t es ≡ true
-    once : items t inner ≤ 1
-    same : pick w facts t es p n ≡ pick w facts t inner q n
-
-  to_rest_leaf : (id : ℕ) (l : Leaf) (rest : Entries) (p : Place) → has t rest ≡ true → items t (leaf id l rest) ≤ 1 → LeadsTo (leaf id l rest) p rest p
-  to_rest_leaf id l rest p lives most =
-      let n1 = items_leaf t id l rest in
-      let i = live_counted t rest lives in
-      record {
-        lives = or_right (eqb id t) (has t rest) lives;
-        once = omega (arith, most, n1);
-        same = cond-false (eqb id t) (leaf_step w.defs w.inputs w.state facts l p n) (pick w facts t rest p n) (another_item t id (omega (arith, most, n1, i)));
-      }
-
-  module _ (id : ℕ) (k : Holder) (h : Head) (held : Entries) (g : Head) (second rest : Entries) (p : Place) (most : items t (node id k h held g second rest) ≤ 1) where
-    to_rest_node : has t rest ≡ true → LeadsTo (node id k h held g second rest) p rest p
-    to_rest_node lives =
-        let num = items_node t id k h held g second rest in
-        let i = live_counted t rest lives in
-        record {
-          lives = or_right (eqb id t) _ (or_right (second_lives k && has t second) _ (or_right (has t held) _ lives));
-          once = omega (arith, most, num);
-          same = pick_later w facts t id k h held g second rest p n (another_item t id (omega (arith, most, num, i)))
-              (not_second (second_lives k) (has t second) (not_live t second (omega (arith, most, num, i)))) (not_live t held (omega (arith, most, num, i)));
-        }
-
-    to_held : has t held ≡ true → LeadsTo (node id k h held g second rest) p held (held_place k h held p)
-    to_held lives =
-        let num = items_node t id k h held g second rest in
-        let i = live_counted t held lives in
-        record {
-          lives = or_right (eqb id t) _ (or_right (second_lives k && has t second) _ (or_left (has t held) _ lives));
-          once = omega (arith, most, num);
-          same = pick_first w facts t id k h held g second rest p n (another_item t id (omega (arith, most, num, i)))
-              (not_second (second_lives k) (has t second) (not_live t second (omega (arith, most, num, i)))) lives;
-        }
-
-    to_second : second_lives k ≡ true → has t second ≡ true → LeadsTo (node id k h held g second rest) p second (second_place g second p)
-    to_second live lives =
-        let num = items_node t id k h held g second rest in
-        let i = live_counted t second lives in
-        let there = and_from (second_lives k) (has t second) live lives in
-        record {
-          lives = or_right (eqb id t) _ (or_left (second_lives k && has t second) _ there);
-          once = omega (arith, most, num);
-          same = pick_second w facts t id k h held g second rest p n (another_item t id (omega (arith, most, num, i))) there;
-        }
-
-  joined : (es fs gs : Entries) (p q r : Place) → LeadsTo es p fs q → LeadsTo fs q gs r → LeadsTo es p gs r
+  joined : (es fs gs : Entries) (p q r : Place) → LeadsTo w facts t n es p fs q → LeadsTo w facts t n fs q gs r → LeadsTo w facts t n es p gs r
   joined es fs gs p q r a b = record { lives = a.lives; once = b.once; same = a.same ∙ b.same }
 
   -- into a region that an item holds
-  to_region : (es : Entries) (role : Role) (i : Head) (held : Entries) (in_it : HoldsRegion es role i held) (p : Place) → items t es ≤ 1 → has t held ≡ true → LeadsTo es p held (place_through in_it p)
-  to_region _ _ _ _ (by_split {id = id} {f = f} {env = env} {h = h} {g = g} {held = held} {second = second} {rest = rest}) p most lives = to_held id (Split f env) h held g second rest p most lives
-  to_region _ _ _ _ (by_split_project {id = id} {f = f} {env = env} {h = h} {g = g} {held = held} {second = second} {rest = rest}) p most lives = to_held id (SplitProject f env) h held g second rest p most lives
-  to_region _ _ _ _ (by_closed {id = id} {h = h} {g = g} {held = held} {second = second} {rest = rest}) p most lives = to_held id Closed h held g second rest p most lives
-  to_region _ _ _ _ (by_opened {id = id} {f = f} {env = env} {h = h} {g = g} {held = held} {second = second} {rest = rest}) p most lives = to_held id (Opened f env) h held g second rest p most lives
-  to_region _ _ _ _ (by_running {id = id} {f = f} {env = env} {h = h} {g = g} {held = held} {second = second} {rest = rest}) p most lives = to_held id (Running f env) h held g second rest p most lives
-  to_region _ _ _ _ (by_running_second {id = id} {f = f} {env = env} {h = h} {g = g} {held = held} {second = second} {rest = rest}) p most lives = to_second id (Running f env) h held g second rest p most refl lives
+  to_region : (es : Entries) (role : Role) (i : Head) (held : Entries) (in_it : HoldsRegion es role i held) (p : Place) → items t es ≤ 1 → has t held ≡ true → LeadsTo w facts t n es p held (place_through in_it p)
+  to_region _ _ _ _ (by_split {id = id} {f = f} {env = env} {h = h} {g = g} {held = held} {second = second} {rest = rest}) p most lives = to_held w facts t n id (Split f env) h held g second rest p most lives
+  to_region _ _ _ _ (by_split_project {id = id} {f = f} {env = env} {h = h} {g = g} {held = held} {second = second} {rest = rest}) p most lives = to_held w facts t n id (SplitProject f env) h held g second rest p most lives
+  to_region _ _ _ _ (by_closed {id = id} {h = h} {g = g} {held = held} {second = second} {rest = rest}) p most lives = to_held w facts t n id Closed h held g second rest p most lives
+  to_region _ _ _ _ (by_opened {id = id} {f = f} {env = env} {h = h} {g = g} {held = held} {second = second} {rest = rest}) p most lives = to_held w facts t n id (Opened f env) h held g second rest p most lives
+  to_region _ _ _ _ (by_running {id = id} {f = f} {env = env} {h = h} {g = g} {held = held} {second = second} {rest = rest}) p most lives = to_held w facts t n id (Running f env) h held g second rest p most lives
+  to_region _ _ _ _ (by_running_second {id = id} {f = f} {env = env} {h = h} {g = g} {held = held} {second = second} {rest = rest}) p most lives = to_second w facts t n id (Running f env) h held g second rest p most refl lives
   to_region _ role i held (past_leaf {id = id} {l = l} {rest = rest} in_it) p most lives =
       let num = items_leaf t id l rest in
       let deeper = to_region rest role i held in_it p (omega (arith, most, num)) lives in
-      joined (leaf id l rest) rest held p p (place_through in_it p) (to_rest_leaf id l rest p deeper.lives most) deeper
+      joined (leaf id l rest) rest held p p (place_through in_it p) (to_rest_leaf w facts t n id l rest p deeper.lives most) deeper
   to_region _ role i held (past_node {id = id} {k = k} {i = h} {g = g} {first = first} {second = second} {rest = rest} in_it) p most lives =
       let num = items_node t id k h first g second rest in
       let deeper = to_region rest role i held in_it p (omega (arith, most, num)) lives in
-      joined (node id k h first g second rest) rest held p p (place_through in_it p) (to_rest_node id k h first g second rest p most deeper.lives) deeper
+      joined (node id k h first g second rest) rest held p p (place_through in_it p) (to_rest_node w facts t n id k h first g second rest p most deeper.lives) deeper
 
   -- to a tail
-  to_tail : (left es : Entries) → IsTail left es → (p : Place) → items t es ≤ 1 → has t left ≡ true → LeadsTo es p left p
+  to_tail : (left es : Entries) → IsTail left es → (p : Place) → items t es ≤ 1 → has t left ≡ true → LeadsTo w facts t n es p left p
   to_tail _ _ (all_entries {es = es}) p most lives = record { lives = lives; once = most; same = refl }
   to_tail _ _ (after_leaf {id = id} {l = l} {rest = rest} {es = es} tail) p most lives =
       let before = to_tail (leaf id l rest) es tail p most (or_right (eqb id t) (has t rest) lives) in
-      joined es (leaf id l rest) rest p p p before (to_rest_leaf id l rest p lives before.once)
+      joined es (leaf id l rest) rest p p p before (to_rest_leaf w facts t n id l rest p lives before.once)
   to_tail _ _ (after_node {id = id} {k = k} {h = h} {g = g} {held = held} {second = second} {rest = rest} {es = es} tail) p most lives =
       let before = to_tail (node id k h held g second rest) es tail p most (or_right (eqb id t) _ (or_right (second_lives k && has t second) _ (or_right (has t held) _ lives))) in
-      joined es (node id k h held g second rest) rest p p p before (to_rest_node id k h held g second rest p before.once lives)
+      joined es (node id k h held g second rest) rest p p p before (to_rest_node w facts t n id k h held g second rest p before.once lives)
 
   -- from the root to a live region
-  from_root : (s : Scene) (h : Head) (es : Entries) (x : LiveRegion s h es) → items t s.root.entries ≤ 1 → has t es ≡ true → LeadsTo s.root.entries (root_place s.root) es (computed_place x)
+  from_root : (s : Scene) (h : Head) (es : Entries) (x : LiveRegion s h es) → items t s.root.entries ≤ 1 → has t es ≡ true → LeadsTo w facts t n s.root.entries (root_place s.root) es (computed_place x)
   from_root s _ _ the_root most lives = record { lives = lives; once = most; same = refl }
   from_root s _ _ (the_held {h = h} {es = es} {role = role} {i = i} {held = held} x in_it) most lives =
       let around = from_root s h es x most (lives_around t es role i held in_it lives) in
