@@ -1,7 +1,7 @@
 -- What a step owes the item that it replaces, and how the forms of a step meet it.
-use Rattle.std.proofs.Common.{◌≡◌, ℤ, ℕ, ◌+◌, ◌<◌, Bool, true, false, nat_lt, List, [], Option, Some, None, refl, ap, sym, ◌∙◌, subst, arith}
+use Rattle.std.proofs.Common.{◌≡◌, ℕ, ◌+◌, ◌<◌, Bool, true, false, nat_lt, List, [], Option, Some, None, refl, ap, sym, ◌∙◌, subst, arith}
 use Rattle.std.proofs.lemmas.Bool.{cond_both}
-use Rattle.tp_value.specs.Tree.{Tree, num, truth, list}
+use Rattle.tp_value.specs.Tree.{Tree}
 use Rattle.tp_value.specs.declared.path.Fact.{Fact}
 use Rattle.tp_kernel.specs.declared.fault.FaultKind.{FaultKind}
 use Rattle.tp_meaning.specs.Syntax.{FormulaTree}
@@ -17,7 +17,7 @@ use Rattle.tp_scene.specs.Scene.{Bindings, Side, Ending, Going, Leaf, Do, new_he
 use Rattle.tp_scene.specs.Says.{IsSo, MarksHold, Claim, FormulaSays, LeafSays, Says}
 use Rattle.tp_scene.proofs.Carry.{update_self}
 use Rattle.tp_scene.proofs.Frame.{Known, MarkSo, Never, Keeps}
-use Rattle.tp_scene.specs.Step.{PickOutcome, reduces, clashes, misses, becomes, vanishes, marking, with_region, region_limit, by_status, with_value, with_truth, with_number}
+use Rattle.tp_scene.specs.Step.{PickOutcome, reduces, clashes, misses, becomes, vanishes, marking, with_region, region_limit, by_status, of_wanted, with_value}
 
 -- the state at a position agrees with these facts
 abbrev pub Agrees : (globals : ℕ) → List Fact → Locals → Course → ℕ → Type 0
@@ -112,27 +112,14 @@ module _ (w : Context) (globals : ℕ) (facts : List Fact) (n e : ℕ) where
     with_value_row (found.fault k) f never h = never k refl
     with_value_row o f never h = tt
 
-    abbrev pub IsNoTruth : Tree → Type 0
-    IsNoTruth t = (c : Bool) → truth c ≡ t → ⊥
-
-    pub with_truth_row : (o : found.Outcome) (f : Bool → PickOutcome) → ((k : FaultKind) → o ≡ found.fault k → No Old s a b)
-        → ((t : Tree) → o ≡ found.value t → IsNoTruth t → No Old s a b) → ((c : Bool) → o ≡ found.value (truth c) → Row (f c) Old s a b) → Row (with_truth o f) Old s a b
-    with_truth_row (found.value (truth c)) f never other h = h c refl
-    with_truth_row (found.value (num k)) f never other h = other (num k) refl (λ c q. absurd (cc))
-    with_truth_row (found.value (list ts)) f never other h = other (list ts) refl (λ c q. absurd (cc))
-    with_truth_row (found.fault k) f never other h = never k refl
-    with_truth_row o f never other h = tt
-
-    abbrev pub IsNoNumber : Tree → Type 0
-    IsNoNumber t = (m : ℤ) → num m ≡ t → ⊥
-
-    pub with_number_row : (o : found.Outcome) (f : ℤ → PickOutcome) → ((k : FaultKind) → o ≡ found.fault k → No Old s a b)
-        → ((t : Tree) → o ≡ found.value t → IsNoNumber t → No Old s a b) → ((m : ℤ) → o ≡ found.value (num m) → Row (f m) Old s a b) → Row (with_number o f) Old s a b
-    with_number_row (found.value (num m)) f never other h = h m refl
-    with_number_row (found.value (truth c)) f never other h = other (truth c) refl (λ m q. absurd (cc))
-    with_number_row (found.value (list ts)) f never other h = other (list ts) refl (λ m q. absurd (cc))
-    with_number_row (found.fault k) f never other h = never k refl
-    with_number_row o f never other h = tt
+    pub with_wanted_row : {A : Type 0} (o : found.Outcome) (kind : Tree → Option A) (f : A → PickOutcome) → ((k : FaultKind) → o ≡ found.fault k → No Old s a b)
+        → ((t : Tree) → o ≡ found.value t → kind t ≡ None → No Old s a b) → ((t : Tree) (x : A) → o ≡ found.value t → kind t ≡ Some x → Row (f x) Old s a b)
+        → Row (with_value o (λ t. of_wanted (kind t) f)) Old s a b
+    with_wanted_row {A} o kind f never other h = with_value_row o (λ t. of_wanted (kind t) f) never (λ t q. by t q (kind t) refl)
+      where
+        by : (t : Tree) → o ≡ found.value t → (wanted : Option A) → kind t ≡ wanted → Row (of_wanted wanted f) Old s a b
+        by t q None e = other t q e
+        by t q (Some x) e = h t x q e
 
   -- the same of what says the same
   pub row_as : (o : PickOutcome) (Old Old' : Claim) (s : Course) (a b : ℕ)

@@ -1,12 +1,12 @@
 -- A value that is found is the one that an expression has, at each depth where it has one.
-use Rattle.std.proofs.Common.{◌≡◌, ℤ, ℕ, ◌+◌, ◌≤◌, ◌<◌, Bool, List, length, Some, None, arith}
-use Rattle.tp_value.specs.Tree.{Tree, num, truth}
+use Rattle.std.proofs.Common.{◌≡◌, ℤ, ℕ, ◌+◌, ◌≤◌, ◌<◌, Bool, List, length, Option, Some, None, refl, ap, sym, ◌∙◌, arith}
+use Rattle.tp_value.specs.Tree.{Tree, num, truth, list}
 use Rattle.tp_value.specs.declared.path.Fact.{Fact}
 use Rattle.tp_kernel.specs.declared.fault.FaultKind.{FaultKind}
 use Rattle.tp_meaning.specs.Syntax.{ExprTree}
 use Rattle.tp_meaning.specs.Course.{Course, Shows}
 use Rattle.tp_meaning.specs.Bindings.{Locals, meanings_of}
-use Rattle.tp_meaning.specs.Value.{value}
+use Rattle.tp_meaning.specs.Value.{value, number_of, truth_of}
 use Rattle.tp_meaning.specs.Fits.{ExprFits}
 use Rattle.tp_meaning.specs.Holds.{Context}
 use Rattle.tp_meaning.proofs.Deeper.{value_deeper}
@@ -16,14 +16,24 @@ use Rattle.tp_eval.specs.Outcome.{outcome}
 use Rattle.tp_eval.specs.Right.{OutcomesAreRight}
 use Rattle.tp_scene.specs.Scene.{Bindings}
 use Rattle.tp_scene.specs.Says.{Claim}
-use Rattle.tp_scene.specs.Step.{PickOutcome, with_value, with_truth, with_number}
+use Rattle.tp_scene.specs.Step.{PickOutcome, of_wanted, with_value, with_truth, with_number}
 use Rattle.tp_scene.proofs.Frame.{Keeps}
-use Rattle.tp_scene.proofs.RowForms.{Agrees, with_value_row, with_truth_row, with_number_row}
+use Rattle.tp_scene.proofs.RowForms.{Agrees, with_value_row, with_wanted_row}
 
 -- outcomes are right in each state that agrees with the facts
 abbrev pub AreRight : (w : Context) (kinds : List Bool) → List Fact → Type 0
 AreRight w kinds facts = (σ : Locals) (s : Course) (a : ℕ) (x : ExprTree) (env : Bindings) → ExprFits w.defs kinds x (length env) → Agrees (length kinds) facts σ s a
     → OutcomesAreRight facts w.defs kinds s σ a x env
+
+is_truth : (t : Tree) (c : Bool) → truth_of t ≡ Some c → t ≡ truth c
+is_truth (truth b) c e = let same : b ≡ c = cc e in ap truth same
+is_truth (num k) c e = absurd (cc e)
+is_truth (list ts) c e = absurd (cc e)
+
+is_number : (t : Tree) (k : ℤ) → number_of t ≡ Some k → t ≡ num k
+is_number (num m) k e = let same : m ≡ k = cc e in ap num same
+is_number (truth b) k e = absurd (cc e)
+is_number (list ts) k e = absurd (cc e)
 
 module _ (w : Context) (kinds : List Bool) (facts : List Fact) (n e : ℕ) (deep : depth_limit < e) (right : AreRight w kinds facts) where
   abbrev pub HasValue : ExprTree → Bindings → ℕ → Locals → Course → ℕ → Tree → Type 0
@@ -65,16 +75,24 @@ module _ (w : Context) (kinds : List Bool) (facts : List Fact) (n e : ℕ) (deep
       value_row f needs h = with_value_row w (length kinds) facts n e Old s a b (outcome facts w.defs x env) f
           (λ k q d σ S ag y. let u = needs d σ S y in no_value k q d σ s a ag u.0 u.1) h
 
+      -- where it holds, that is one that `make` makes
+      kind_row : {A : Type 0} (kind : Tree → Option A) (make : A → Tree) → ((v : A) → kind (make v) ≡ Some v) → ((t : Tree) (v : A) → kind t ≡ Some v → t ≡ make v) → (f : A → PickOutcome)
+          → ((d : ℕ) (σ : Locals) (S : Shows) → Old d σ s a b S → (v : A) × HasValue x env d σ s a (make v))
+          → ((v : A) → Finds x env (make v) → RowOf (f v)) → RowOf (with_value (outcome facts w.defs x env) (λ t. of_wanted (kind t) f))
+      kind_row kind make made from f needs h = with_wanted_row w (length kinds) facts n e Old s a b (outcome facts w.defs x env) kind f
+          (λ k q d σ S ag y. let u = needs d σ S y in no_value k q d σ s a ag (make u.0) u.1)
+          (λ t q none d σ S ag y. let u = needs d σ S y in
+          let same : make u.0 ≡ t = one_value t q d σ s a ag (make u.0) u.1 in
+          let z : Some u.0 ≡ None = sym (made u.0) ∙ ap kind same ∙ none in
+          cc z)
+          (λ t v q is. h v (q ∙ ap found.value (from t v is)))
+
       pub truth_row : (f : Bool → PickOutcome)
           → ((d : ℕ) (σ : Locals) (S : Shows) → Old d σ s a b S → (c : Bool) × HasValue x env d σ s a (truth c))
           → ((c : Bool) → Finds x env (truth c) → RowOf (f c)) → RowOf (with_truth (outcome facts w.defs x env) f)
-      truth_row f needs h = with_truth_row w (length kinds) facts n e Old s a b (outcome facts w.defs x env) f
-          (λ k q d σ S ag y. let u = needs d σ S y in no_value k q d σ s a ag (truth u.0) u.1)
-          (λ t q differs d σ S ag y. let u = needs d σ S y in differs u.0 (one_value t q d σ s a ag (truth u.0) u.1)) h
+      truth_row = kind_row truth_of truth (λ c. refl) is_truth
 
       pub number_row : (f : ℤ → PickOutcome)
           → ((d : ℕ) (σ : Locals) (S : Shows) → Old d σ s a b S → (k : ℤ) × HasValue x env d σ s a (num k))
           → ((k : ℤ) → Finds x env (num k) → RowOf (f k)) → RowOf (with_number (outcome facts w.defs x env) f)
-      number_row f needs h = with_number_row w (length kinds) facts n e Old s a b (outcome facts w.defs x env) f
-          (λ k q d σ S ag y. let u = needs d σ S y in no_value k q d σ s a ag (num u.0) u.1)
-          (λ t q differs d σ S ag y. let u = needs d σ S y in differs u.0 (one_value t q d σ s a ag (num u.0) u.1)) h
+      number_row = kind_row number_of num (λ k. refl) is_number

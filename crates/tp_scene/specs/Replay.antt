@@ -4,7 +4,7 @@ use Rattle.tp_kernel.specs.declared.fault.LimitKind.{LimitKind}
 use Rattle.tp_scene.specs.declared.answer.Cell.{Cell}
 use Rattle.tp_scene.specs.declared.answer.Clash.{Clash}
 use Rattle.tp_scene.specs.Scene.{has}
-use Rattle.tp_scene.specs.Step.{Reduction, reduces, clashes, misses, passes}
+use Rattle.tp_scene.specs.Step.{Reduction, PickOutcome, reduces, clashes, misses, passes}
 use Rattle.tp_scene.specs.Pick.{Setting, Moment, Leads, outcome_of}
 use Rattle.tp_scene.specs.Rest.{AtRest, settled, goes, ends, IsOpenCell}
 use Rattle.tp_scene.specs.Advance.{advanced, StoreGoesOn}
@@ -39,32 +39,23 @@ pub record IsOpen (w : Setting) (most : ℕ) (m : Moment) (cell : Cell) : Type 0
   pub cell_is : IsOpenCell w last cell
 
 -- Picks lead to where some live item has this outcome.
-pub record MeetsClash (w : Setting) (most : ℕ) (m : Moment) (clash : Clash) : Type 0 where
+pub record MeetsOutcome (w : Setting) (most : ℕ) (m : Moment) (met : PickOutcome) : Type 0 where
   pub picks : List ℕ
   pub last : Moment
   pub leads : Leads w m picks last
   pub within : length picks ≤ most
   pub item : ℕ
   pub lives : has item last.scene.root.entries ≡ true
-  pub outcome : outcome_of w last.store last.scene item ≡ clashes clash
+  pub outcome : outcome_of w last.store last.scene item ≡ met
 
-pub record MissesInput (w : Setting) (most : ℕ) (m : Moment) (port : List ℕ) : Type 0 where
-  pub picks : List ℕ
-  pub last : Moment
-  pub leads : Leads w m picks last
-  pub within : length picks ≤ most
-  pub item : ℕ
-  pub lives : has item last.scene.root.entries ≡ true
-  pub outcome : outcome_of w last.store last.scene item ≡ misses port
+abbrev pub MeetsClash : Setting → ℕ → Moment → Clash → Type 0
+MeetsClash w most m clash = MeetsOutcome w most m (clashes clash)
 
-pub record PassesLimit (w : Setting) (most : ℕ) (m : Moment) (limit : LimitKind) : Type 0 where
-  pub picks : List ℕ
-  pub last : Moment
-  pub leads : Leads w m picks last
-  pub within : length picks ≤ most
-  pub item : ℕ
-  pub lives : has item last.scene.root.entries ≡ true
-  pub outcome : outcome_of w last.store last.scene item ≡ passes limit
+abbrev pub MissesInput : Setting → ℕ → Moment → (port : List ℕ) → Type 0
+MissesInput w most m port = MeetsOutcome w most m (misses port)
+
+abbrev pub PassesLimit : Setting → ℕ → Moment → LimitKind → Type 0
+PassesLimit w most m limit = MeetsOutcome w most m (passes limit)
 
 -- As many picks as there may be lead to where one more item has a step.
 pub record UsesUp (w : Setting) (most : ℕ) (m : Moment) : Type 0 where

@@ -11,7 +11,7 @@ use Rattle.tp_kernel.specs.declared.fault.LimitKind.{LimitKind}
 use Rattle.tp_kernel.specs.declared.fault.LimitKind.TheVariants as limit
 use Rattle.tp_meaning.specs.Syntax.{ExprTree, ExprTrees, no_expr, expr_then, numeral, known, bound, size, index, FormulaTree, FormulaTrees, trivial, test, equation, next_equation, empty, more, next, weak_next, if_more, if_empty, always, conjunction, branch, len, assign, chop, while, for_from, forall_from, project, exists, call, input, display, no_formula, formula_then, formulas_of, Definition, BindingTree, place_binding, known_binding}
 use Rattle.tp_meaning.specs.Nexts.{nexts}
-use Rattle.tp_meaning.specs.Value.{is_upper}
+use Rattle.tp_meaning.specs.Value.{is_upper, number_of, truth_of}
 use Rattle.tp_meaning.specs.Inputs.{InputTable, input_at}
 use Rattle.tp_store.specs.Facts.{fact, facts_at, kept_shape, is_excluded}
 use Rattle.tp_store.specs.Known.{Addition, adds, refuses, addition, Variable}
@@ -94,18 +94,15 @@ ending p = marking Ending (p.is Going) p.depth none 0
 abbrev pub going : Place → (news : Entries) → (items : ℕ) → PickOutcome
 going p news n = marking Going (p.is Ending) p.depth news n
 
--- the same, with one new region, which is one deeper than the item's
+-- the item becomes these entries, with one new region
+abbrev pub becomes_with_region : (news : Entries) → (items : ℕ) → PickOutcome
+becomes_with_region news n =
+    reduces (record { news = news; items = n; regions = 1; local = None; mark = None; facts = [] })
+
+-- the same, where that region is one deeper than the item's
 abbrev pub with_region : (depth : ℕ) → (news : Entries) → (items : ℕ) → PickOutcome
 with_region depth news n =
-    if nat_lt depth region_limit
-    then reduces (record {
-      news = news;
-      items = n;
-      regions = 1;
-      local = None;
-      mark = None;
-      facts = [];
-    }) else passes limit.Nest
+    if nat_lt depth region_limit then becomes_with_region news n else passes limit.Nest
 
 -- a region with this number and one item
 abbrev pub region_of : (number id : ℕ) → FormulaTree → Bindings → Region
@@ -124,21 +121,16 @@ with_value (found.wait p) f = waits (Part p) None
 with_value (found.fault k) f = clashes (NoValue k)
 with_value (found.over k) f = passes k
 
+-- what a value is, where it is of the kind that is wanted
+abbrev pub of_wanted : {A : Type 0} → Option A → (A → PickOutcome) → PickOutcome
+of_wanted (Some x) f = f x
+of_wanted None f = clashes (NoValue WrongKind)
+
 abbrev pub with_truth : found.Outcome → (Bool → PickOutcome) → PickOutcome
-with_truth o f = with_value o truth_or_not
-  where
-    truth_or_not : Tree → PickOutcome
-    truth_or_not (truth b) = f b
-    truth_or_not (num n) = clashes (NoValue WrongKind)
-    truth_or_not (list ts) = clashes (NoValue WrongKind)
+with_truth o f = with_value o (λ t. of_wanted (truth_of t) f)
 
 abbrev pub with_number : found.Outcome → (ℤ → PickOutcome) → PickOutcome
-with_number o f = with_value o number_or_not
-  where
-    number_or_not : Tree → PickOutcome
-    number_or_not (num n) = f n
-    number_or_not (truth b) = clashes (NoValue WrongKind)
-    number_or_not (list ts) = clashes (NoValue WrongKind)
+with_number o f = with_value o (λ t. of_wanted (number_of t) f)
 
 -- What an equation can set: the value at a path, or the length of the list there.
 pub data Target : Type 0 where
@@ -431,22 +423,11 @@ module _ (defs : List Definition) (inputs : InputTable) (state : ℕ) (facts : L
       (closed_then (n.item 0) held (opened_then (n.item 1) second f env none)) 2)
   holder_step Closed held second q n = rests
   holder_step (Opened f env) held second q n =
-      by_status q (with_inner
+      by_status q (becomes_with_region
       (running_then (n.item 2)
       (record {
         head = new_head n.region;
         entries = leaf (n.item 0) (Do f env) (leaf (n.item 1) (Do more env) none);
       }) held f env
       none) 3) rests
-    where
-      with_inner : Entries → ℕ → PickOutcome
-      with_inner news items =
-          reduces (record {
-            news = news;
-            items = items;
-            regions = 1;
-            local = None;
-            mark = None;
-            facts = [];
-          })
   holder_step (Running f env) held second q n = rests
