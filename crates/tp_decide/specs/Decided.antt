@@ -1,9 +1,10 @@
 -- What decisions stand for.
-use Rattle.std.specs.Prelude.{◌≡◌, ℕ, suc, List, [], ◌∷◌, ◌++◌, length, Some, None}
+use Rattle.std.specs.Prelude.{◌≡◌, ℕ, suc, List, [], ◌∷◌, ◌++◌, length, Some, None, Result, IfOk}
 use Rattle.std.specs.Option.{option_map}
-use Rattle.tp_meaning.specs.Syntax.{place_binding}
+use Rattle.tp_meaning.specs.Syntax.{FormulaTree, place_binding}
 use Rattle.tp_value.specs.Read.{tree}
 use Rattle.tp_value.specs.declared.path.Fact.{Fact}
+use Rattle.tp_value.specs.declared.refusal.NoMemory.{NoMemory}
 use Rattle.tp_value.specs.declared.value.Shape.TheVariants.{Items}
 use Rattle.tp_kernel.specs.Read.{definitions_of}
 use Rattle.tp_store.specs.Facts.{fact, facts_at}
@@ -21,6 +22,8 @@ use Rattle.tp_decide.specs.declared.decision.Leaf.{Leaf}
 use Rattle.tp_decide.specs.declared.decision.Leaf.TheVariants as leaf
 use Rattle.tp_decide.specs.declared.decision.Decision.{Decision}
 use Rattle.tp_decide.specs.declared.decision.Decision.TheVariants as decision
+use Rattle.tp_decide.specs.declared.regions.RegionKind.{RegionKind}
+use Rattle.tp_decide.specs.declared.regions.RegionKind.TheVariants as region
 use Rattle.tp_decide.specs.declared.setting.Setting.{Setting}
 use Rattle.tp_decide.specs.Read.{values_of}
 use Rattle.tp_decide.specs.ReadPhrase.{formula_of, env_of}
@@ -51,6 +54,10 @@ abbrev pub news_entries : List Leaf → (number : ℕ → ℕ) → (from : ℕ) 
 news_entries [] number k = S.none
 news_entries (l ∷ ls) number k = S.leaf (number k) (plain_leaf l) (news_entries ls number (suc k))
 
+-- the item becomes one formula from this state on
+abbrev pub becomes_due : FormulaTree → S.Bindings → Numbers → PickOutcome
+becomes_due f env n = row.becomes (S.leaf (n.item 0) (S.Do f env) S.none) 1
+
 -- the item becomes one that holds a new region with one item
 abbrev pub with_new_region : S.Entries → PickOutcome
 with_new_region news =
@@ -62,6 +69,11 @@ with_new_region news =
       mark = None;
       facts = [];
     })
+
+-- the item that holds a new region of this kind
+abbrev pub holding : RegionKind → (id : ℕ) → S.Region → FormulaTree → S.Bindings → S.Entries → S.Entries
+holding region.Left = S.split_then
+holding region.Outer = S.opened_then
 
 -- Facts are added, and these items stand in the item's place; or it is refused.
 abbrev pub adding_items : (news : S.Entries) → (items : ℕ) → Addition → PickOutcome
@@ -122,3 +134,11 @@ decided_outcome facts n (decision.Passes k) = row.passes k
 -- It stands for this outcome, whatever is known.
 abbrev pub Decides : Decision → (Numbers → PickOutcome) → Type 0
 Decides d o = (facts : List Fact) (n : Numbers) → decided_outcome facts n d ≡ o n
+
+-- the same of a result, which has no decision where memory runs out
+abbrev pub IfOkDecides : Result Decision NoMemory → (Numbers → PickOutcome) → Type 0
+IfOkDecides r o = IfOk r (λ d. Decides d o)
+
+-- what it stands for where these facts are known
+abbrev pub IfOkDecidesIn : List Fact → Result Decision NoMemory → (Numbers → PickOutcome) → Type 0
+IfOkDecidesIn facts r o = IfOk r (λ d. (n : Numbers) → decided_outcome facts n d ≡ o n)

@@ -1,12 +1,12 @@
 -- What is found where expressions are evaluated, or decided instead.
-use Rattle.std.specs.Prelude.{◌≡◌, ℤ, pos, negsuc, zero, suc, Bool, List, Option, Result, Ok, Err}
+use Rattle.std.specs.Prelude.{◌≡◌, ℕ, ℤ, pos, negsuc, zero, suc, Bool, List, Option, Result, Ok, Err}
 use Rattle.std.specs.Option.{option_map}
 use Rattle.tp_value.specs.Tree.{Tree, num, truth}
 use Rattle.tp_value.specs.Read.{tree}
 use Rattle.tp_value.specs.declared.path.Fact.{Fact}
 use Rattle.tp_value.specs.declared.path.Path.{Path}
 use Rattle.tp_value.specs.declared.value.Value.{Value}
-use Rattle.tp_meaning.specs.Syntax.{Definition, ExprTree, ExprTrees, BindingTree, size, numeral, FormulaTree, empty, next, len}
+use Rattle.tp_meaning.specs.Syntax.{Definition, ExprTree, ExprTrees, BindingTree, size, numeral, FormulaTree, empty, next, len, for_from, forall_from}
 use Rattle.tp_kernel.specs.declared.formula.Binding.{Binding}
 use Rattle.tp_kernel.specs.declared.formula.Env.{Env}
 use Rattle.tp_kernel.specs.Read.{binding_of, bindings_of}
@@ -15,6 +15,8 @@ use Rattle.tp_eval.specs.Answers.{outcome_tree}
 use Rattle.tp_scene.specs.Scene.{Bindings}
 use Rattle.tp_scene.specs.Step as row
 use Rattle.tp_scene.specs.Step.{PickOutcome}
+use Rattle.tp_decide.specs.declared.counting.CountKind.{CountKind}
+use Rattle.tp_decide.specs.declared.counting.CountKind.TheVariants as count
 use Rattle.tp_decide.specs.declared.decision.Decision.{Decision}
 use Rattle.tp_decide.specs.declared.sides.Target.{Target}
 use Rattle.tp_decide.specs.declared.sides.Target.TheVariants as target
@@ -79,3 +81,8 @@ abbrev pub IsShorter : ℤ → FormulaTree → Type 0
 IsShorter (pos zero) f = f ≡ empty
 IsShorter (pos (suc k)) f = f ≡ next (len (numeral (pos k)))
 IsShorter (negsuc k) f = ⊥
+
+-- the formula that counts so, from a number on to below a bound
+abbrev pub counted_from : CountKind → (name : List ℕ) → ℤ → ExprTree → FormulaTree → FormulaTree
+counted_from count.Turns = for_from
+counted_from count.Instances = forall_from

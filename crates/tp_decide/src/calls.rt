@@ -7,7 +7,7 @@ ghost use Rattle.tp_kernel.specs.Read.{expr_tree, expr_trees, definition_of, def
 ghost use Rattle.tp_eval.specs.Evaluate.{is_place};
 ghost use Rattle.tp_eval.specs.Outcome.{Outcome, place_outcome};
 ghost use Rattle.tp_scene.specs.Step as row;
-ghost use Rattle.tp_decide.specs.Decided.{Decides};
+ghost use Rattle.tp_decide.specs.Decided.{Decides, IfOkDecides};
 ghost use Rattle.tp_decide.specs.Fits.{IsPlain, ArePlaces};
 ghost use Rattle.tp_decide.specs.Found.{ValueIn, BoundIn, AllBoundIn};
 
@@ -158,10 +158,9 @@ fn unfold(
     setting: &Setting,
 ) -> Result<Decision, NoMemory>
     requires { ArePlaces (expr_trees exprs.now) (definition_of def.now).parameters }
-    ensures outcome { IfOk result (λ d.
-        Decides d (λ n.
+    ensures outcome { IfOkDecides result (λ n.
         row.called (definitions_of setting.now.defs.now) store.now.facts
-        (Some (definition_of def.now)) (expr_trees exprs.now) (bindings_of env.now) n)) }
+        (Some (definition_of def.now)) (expr_trees exprs.now) (bindings_of env.now) n) }
     ensures plain { IfOk result IsPlain }
 {
     match find_bindings(alloc, &def.parameters, exprs, env, store, setting)? {
@@ -187,11 +186,10 @@ pub fn decide_call(
     requires { (called : Definition)
         → slice_get (definitions_of setting.now.defs.now) number ≡ Some called
         → ArePlaces (expr_trees exprs.now) called.parameters }
-    ensures outcome { IfOk result (λ d.
-        Decides d (λ n.
+    ensures outcome { IfOkDecides result (λ n.
         row.called (definitions_of setting.now.defs.now) store.now.facts
         (slice_get (definitions_of setting.now.defs.now) number) (expr_trees exprs.now)
-        (bindings_of env.now) n)) }
+        (bindings_of env.now) n) }
     ensures plain { IfOk result IsPlain }
 {
     match definition(setting.defs, number) {

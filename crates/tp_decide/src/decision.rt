@@ -3,7 +3,7 @@ ghost use Rattle.std.specs.Prelude.{◌≡◌, IfOk, length, None};
 ghost use Rattle.tp_kernel.specs.Read.{formula_tree, bindings_of};
 ghost use Rattle.tp_scene.specs.Scene as S;
 ghost use Rattle.tp_scene.specs.Step as row;
-ghost use Rattle.tp_decide.specs.Decided.{Decides, plain_leaf, news_entries, plain_place};
+ghost use Rattle.tp_decide.specs.Decided.{Decides, IfOkDecides, plain_leaf, news_entries, plain_place};
 ghost use Rattle.tp_decide.specs.Fits.{IsPlain};
 
 use crate::env::under;
@@ -119,8 +119,7 @@ pub fn later(what: Rc<Formula>, env: &Rc<Env>) -> Result<Leaf, NoMemory>
 
 /// One item stands in its place.
 pub fn becomes_one(alloc: Global, leaf: Leaf) -> Result<Decision, NoMemory>
-    ensures outcome { IfOk result (λ d.
-        Decides d (λ n. row.becomes (S.leaf (n.item 0) (plain_leaf leaf) S.none) 1)) }
+    ensures outcome { IfOkDecides result (λ n. row.becomes (S.leaf (n.item 0) (plain_leaf leaf) S.none) 1) }
     ensures plain { IfOk result IsPlain }
 {
     let mut news = Vec::new(alloc);
@@ -130,10 +129,9 @@ pub fn becomes_one(alloc: Global, leaf: Leaf) -> Result<Decision, NoMemory>
 
 /// Two items stand in its place.
 pub fn becomes_two(alloc: Global, first: Leaf, second: Leaf) -> Result<Decision, NoMemory>
-    ensures outcome { IfOk result (λ d.
-        Decides d (λ n.
+    ensures outcome { IfOkDecides result (λ n.
         row.becomes
-        (S.leaf (n.item 0) (plain_leaf first) (S.leaf (n.item 1) (plain_leaf second) S.none)) 2)) }
+        (S.leaf (n.item 0) (plain_leaf first) (S.leaf (n.item 1) (plain_leaf second) S.none)) 2) }
     ensures plain { IfOk result IsPlain }
 {
     let mut news = Vec::new(alloc);

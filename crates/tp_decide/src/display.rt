@@ -3,7 +3,7 @@ ghost use Rattle.std.specs.Prelude.{IfOk, IfErr};
 ghost use Rattle.tp_kernel.specs.Read.{expr_trees, definitions_of, bindings_of};
 ghost use Rattle.tp_scene.specs.Scene as S;
 ghost use Rattle.tp_scene.specs.Step as row;
-ghost use Rattle.tp_decide.specs.Decided.{Decides};
+ghost use Rattle.tp_decide.specs.Decided.{IfOkDecides};
 ghost use Rattle.tp_decide.specs.Fits.{IsPlain};
 ghost use Rattle.tp_decide.specs.Found.{ValuesIn};
 
@@ -47,11 +47,10 @@ pub fn decide_display(
     store: &Store,
     setting: &Setting,
 ) -> Result<Decision, NoMemory>
-    ensures outcome { IfOk result (λ d.
-        Decides d (λ n.
+    ensures outcome { IfOkDecides result (λ n.
         row.with_values (definitions_of setting.now.defs.now) store.now.facts
         (expr_trees exprs.now) (bindings_of env.now)
-        (λ vs. row.becomes (S.leaf (n.item 0) (S.Shown vs) S.none) 1))) }
+        (λ vs. row.becomes (S.leaf (n.item 0) (S.Shown vs) S.none) 1)) }
     ensures plain { IfOk result IsPlain }
 {
     match find_values(alloc, exprs, env, store, setting)? {

@@ -5,11 +5,12 @@ ghost use Rattle.tp_value.specs.Tree.{num};
 ghost use Rattle.tp_kernel.specs.Read.{expr_tree, definitions_of, bindings_of};
 ghost use Rattle.tp_value.specs.declared.path.Fact.{Fact};
 ghost use Rattle.tp_meaning.specs.Inputs.{input_at};
+ghost use Rattle.tp_inputs.specs.Read.{inputs_of};
 ghost use Rattle.tp_eval.specs.Outcome as found;
 ghost use Rattle.tp_eval.specs.Answers.{outcome_tree};
 ghost use Rattle.tp_scene.specs.Step as row;
 ghost use Rattle.tp_store.specs.Known.{Variable, IsVariableOf};
-ghost use Rattle.tp_decide.specs.Decided.{decided_outcome, setting_of};
+ghost use Rattle.tp_decide.specs.Decided.{IfOkDecidesIn, decided_outcome};
 ghost use Rattle.tp_decide.specs.Found.{option_target, side_found};
 ghost use Rattle.tp_decide.specs.Equated.{sets_length, AreOneValue, AreEqual, AreValuePaths};
 ghost use Rattle.tp_decide.specs.Fits.{ArePathsOfVariables, IsTargetOf, SetsVariables, ExprFitsStore};
@@ -268,16 +269,11 @@ pub fn decide_equation(
         (expr_tree left.now) (bindings_of env.now) }
     requires fits_right { ExprFitsStore (definitions_of setting.now.defs.now) store.now.variables
         (expr_tree right.now) (bindings_of env.now) }
-    ensures outcome { let w = setting_of setting.now in
-        IfOk result (λ d.
-        (n : row.Numbers)
-        → decided_outcome store.now.facts n d
-        ≡ row.equate store.now.facts
-        (row.side_of w.defs store.now.facts (expr_tree left.now)
+    ensures outcome { IfOkDecidesIn store.now.facts result (row.equate store.now.facts
+        (row.side_of (definitions_of setting.now.defs.now) store.now.facts (expr_tree left.now)
         (bindings_of env.now))
-        (row.side_of w.defs store.now.facts (expr_tree right.now)
-        (bindings_of env.now))
-        n) }
+        (row.side_of (definitions_of setting.now.defs.now) store.now.facts (expr_tree right.now)
+        (bindings_of env.now))) }
     ensures variables { IfOk result (SetsVariables store.now.variables) }
 {
     if let Some((left, right)) = both_paths(alloc, left, right, env, store, setting)? {
@@ -305,13 +301,10 @@ pub fn decide_input(
 ) -> Result<Decision, NoMemory>
     requires fits { ExprFitsStore (definitions_of setting.now.defs.now) store.now.variables
         (expr_tree expr.now) (bindings_of env.now) }
-    ensures outcome { let w = setting_of setting.now in
-        IfOk result (λ d.
-        (n : row.Numbers)
-        → decided_outcome store.now.facts n d
-        ≡ row.from_port store.now.facts (input_at w.inputs w.state port.now)
-        port.now
-        (row.side_of w.defs store.now.facts (expr_tree expr.now)
+    ensures outcome { IfOkDecidesIn store.now.facts result (λ n.
+        row.from_port store.now.facts
+        (input_at (inputs_of setting.now.inputs.now) setting.now.state port.now) port.now
+        (row.side_of (definitions_of setting.now.defs.now) store.now.facts (expr_tree expr.now)
         (bindings_of env.now))) }
     ensures variables { IfOk result (SetsVariables store.now.variables) }
 {

@@ -1,33 +1,34 @@
 // Formulas whose expression was evaluated.
-ghost use Rattle.std.specs.Prelude.{◌≡◌, ◌≤◌, ◌-◌, pos, ◌≤ℤ◌, IfOk, IfErr, if◌then◌else◌};
+ghost use Rattle.std.specs.Prelude.{◌≡◌, ◌≤◌, ◌-◌, pos, ◌≤ℤ◌, IfOk, if◌then◌else◌};
 ghost use Rattle.tp_meaning.specs.Syntax.{known, equation, always, if_empty};
 ghost use Rattle.tp_meaning.specs.Nexts.{nexts};
 ghost use Rattle.tp_kernel.specs.Read.{expr_tree, formula_tree, bindings_of};
 ghost use Rattle.tp_value.specs.Read.{tree};
-ghost use Rattle.tp_eval.specs.Outcome.{Outcome};
+ghost use Rattle.tp_eval.specs.Answers.{outcome_tree};
 ghost use Rattle.tp_scene.specs.Scene as S;
 ghost use Rattle.tp_scene.specs.Step as row;
-ghost use Rattle.tp_decide.specs.Decided.{Decides, plain_place};
+ghost use Rattle.tp_decide.specs.Decided.{Decides, IfOkDecides, becomes_due, plain_place};
 ghost use Rattle.tp_decide.specs.Fits.{IsPlain};
-ghost use Rattle.tp_decide.specs.Found.{TruthIn, NumberIn, ValueIn, IsShorter};
+ghost use Rattle.tp_decide.specs.Found.{IsShorter};
 
 use crate::decision::{Decision, Place, becomes_one, due, nothing};
 use crate::formula::decide_next;
+use crate::found::{number, truth, value};
 use std::alloc::Global;
 use std::rc::Rc;
+use tp_eval::Outcome;
 use tp_kernel::{Env, Expr, Formula};
 use tp_scene::Clash;
 use tp_value::{NoMemory, Number, Value};
 
 /// Nothing, where the truth value that was looked for is true.
-pub fn decide_test(alloc: Global, found: Result<bool, Decision>) -> Decision
-    requires { IfErr found IsPlain }
-    ensures outcome { (o : Outcome) → TruthIn o found
-        → Decides result (λ n.
-        row.with_truth o (λ b. if b then row.vanishes else row.clashes Clash.False)) }
+pub fn decide_test(alloc: Global, found: Outcome) -> Decision
+    ensures outcome { Decides result (λ n.
+        row.with_truth (outcome_tree found) (λ b.
+        if b then row.vanishes else row.clashes Clash.False)) }
     ensures plain { IsPlain result }
 {
-    match found {
+    match truth(found) {
         Ok(true) => nothing(alloc),
         Ok(false) => Decision::Clashes(Clash::False),
         Err(decision) => decision,
@@ -37,25 +38,18 @@ pub fn decide_test(alloc: Global, found: Result<bool, Decision>) -> Decision
 /// The branch that the truth value chooses.
 pub fn decide_branch(
     alloc: Global,
-    found: Result<bool, Decision>,
+    found: Outcome,
     yes: &Rc<Formula>,
     no: &Rc<Formula>,
     env: &Rc<Env>,
 ) -> Result<Decision, NoMemory>
-    requires { IfErr found IsPlain }
-    ensures outcome { IfOk result (λ d.
-        (o : Outcome) → TruthIn o found
-        → Decides d (λ n.
-        row.with_truth o (λ b.
-        row.becomes
-        (S.leaf (n.item 0)
-        (S.Do (if b then formula_tree yes.now.value else formula_tree no.now.value)
-        (bindings_of env.now.value))
-        S.none)
-        1))) }
+    ensures outcome { IfOkDecides result (λ n.
+        row.with_truth (outcome_tree found) (λ b.
+        becomes_due (if b then formula_tree yes.now.value else formula_tree no.now.value)
+        (bindings_of env.now.value) n)) }
     ensures plain { IfOk result IsPlain }
 {
-    match found {
+    match truth(found) {
         Ok(true) => {
             let leaf = due(yes.clone()?, env)?;
             becomes_one(alloc, leaf)
@@ -85,8 +79,7 @@ fn shorter(alloc: Global, left: Number) -> Result<Rc<Formula>, NoMemory>
 
 // A length of so many states more.
 fn decide_length(alloc: Global, left: Number, env: &Rc<Env>) -> Result<Decision, NoMemory>
-    ensures outcome { IfOk result (λ d.
-        Decides d (λ n. row.length_left left (bindings_of env.now.value) n)) }
+    ensures outcome { IfOkDecides result (λ n. row.length_left left (bindings_of env.now.value) n) }
     ensures plain { IfOk result IsPlain }
 {
     if left < 0 {
@@ -98,19 +91,13 @@ fn decide_length(alloc: Global, left: Number, env: &Rc<Env>) -> Result<Decision,
 }
 
 /// A length of as many states as the number says.
-pub fn decide_len(
-    alloc: Global,
-    found: Result<Number, Decision>,
-    env: &Rc<Env>,
-) -> Result<Decision, NoMemory>
-    requires { IfErr found IsPlain }
-    ensures outcome { IfOk result (λ d.
-        (o : Outcome) → NumberIn o found
-        → Decides d (λ n.
-        row.with_number o (λ k. row.length_left k (bindings_of env.now.value) n))) }
+pub fn decide_len(alloc: Global, found: Outcome, env: &Rc<Env>) -> Result<Decision, NoMemory>
+    ensures outcome { IfOkDecides result (λ n.
+        row.with_number (outcome_tree found) (λ k.
+        row.length_left k (bindings_of env.now.value) n)) }
     ensures plain { IfOk result IsPlain }
 {
-    match found {
+    match number(found) {
         Ok(left) => {
             let decision = decide_length(alloc, left, env)?;
             Ok(decision)
@@ -133,23 +120,16 @@ fn equation(alloc: Global, target: &Rc<Expr>, value: Value) -> Result<Formula, N
 pub fn decide_assign(
     alloc: Global,
     target: &Rc<Expr>,
-    found: Result<Value, Decision>,
+    found: Outcome,
     env: &Rc<Env>,
 ) -> Result<Decision, NoMemory>
-    requires { IfErr found IsPlain }
-    ensures outcome { IfOk result (λ d.
-        (o : Outcome) → ValueIn o found
-        → Decides d (λ n.
-        row.with_value o (λ v.
-        row.becomes
-        (S.leaf (n.item 0)
-        (S.Do (always (if_empty (equation (expr_tree target.now.value) (known v))))
-        (bindings_of env.now.value))
-        S.none)
-        1))) }
+    ensures outcome { IfOkDecides result (λ n.
+        row.with_value (outcome_tree found) (λ v.
+        becomes_due (always (if_empty (equation (expr_tree target.now.value) (known v))))
+        (bindings_of env.now.value) n)) }
     ensures plain { IfOk result IsPlain }
 {
-    match found {
+    match value(found) {
         Ok(value) => {
             let equal = Rc::new(alloc, equation(alloc, target, value)?)?;
             let at_end = Rc::new(alloc, Formula::IfEmpty(equal))?;
@@ -177,25 +157,22 @@ pub fn decide_next_equation(
     alloc: Global,
     count: u32,
     target: &Rc<Expr>,
-    found: Result<Value, Decision>,
+    found: Outcome,
     env: &Rc<Env>,
     place: Place,
 ) -> Result<Decision, NoMemory>
-    requires later { 1 ≤ count }
-    requires plain { IfErr found IsPlain }
-    ensures outcome { IfOk result (λ d.
-        (o : Outcome) → ValueIn o found
-        → Decides d (λ n.
-        row.with_value o (λ v.
+    requires { 1 ≤ count }
+    ensures outcome { IfOkDecides result (λ n.
+        row.with_value (outcome_tree found) (λ v.
         row.going (plain_place place)
         (S.leaf (n.item 0)
         (S.Later (nexts (count - 1) (equation (expr_tree target.now.value) (known v)))
         (bindings_of env.now.value))
         S.none)
-        1))) }
+        1)) }
     ensures plain { IfOk result IsPlain }
 {
-    match found {
+    match value(found) {
         Ok(value) => {
             let equal = equation(alloc, target, value)?;
             let whole = under_nexts(alloc, count - 1, equal)?;

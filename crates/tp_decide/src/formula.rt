@@ -3,7 +3,7 @@ ghost use Rattle.std.specs.Prelude.{◌≡◌, IfOk, ◌∷◌, []};
 ghost use Rattle.tp_kernel.specs.Read.{definitions_of, expr_tree, formula_tree, formula_trees, bindings_of};
 ghost use Rattle.tp_scene.specs.Step as row;
 ghost use Rattle.tp_decide.specs.ReadPhrase.{formula_of, env_of};
-ghost use Rattle.tp_decide.specs.Decided.{decided_outcome, plain_place, setting_of, Decides};
+ghost use Rattle.tp_decide.specs.Decided.{IfOkDecides, becomes_due, decided_outcome, plain_place, setting_of};
 ghost use Rattle.tp_decide.specs.Fits.{SetsVariables, FitsStore, IsPlain};
 ghost use Rattle.tp_scene.specs.Scene as S;
 ghost use Rattle.tp_meaning.specs.Syntax.{always, branch, chop, conjunction, empty, formulas_of, more, weak_next};
@@ -19,12 +19,12 @@ use crate::equation::{decide_equation, decide_input};
 use crate::evaluated::{
     decide_assign, decide_branch, decide_len, decide_next_equation, decide_test,
 };
-use crate::found::{find_number, find_truth, find_value};
 use crate::phrase::Phrase;
-use crate::regions::{decide_chop, decide_exists, decide_project};
+use crate::regions::{RegionKind, decide_exists, decide_region};
 use crate::setting::Setting;
 use std::alloc::Global;
 use std::rc::Rc;
+use tp_eval::eval;
 use tp_kernel::{Env, Expr, Formula, Formulas};
 use tp_store::Store;
 use tp_value::NoMemory;
@@ -36,12 +36,11 @@ pub fn decide_next(
     env: &Rc<Env>,
     place: Place,
 ) -> Result<Decision, NoMemory>
-    ensures outcome { IfOk result (λ d.
-        Decides d (λ n.
+    ensures outcome { IfOkDecides result (λ n.
         row.going (plain_place place)
         (S.leaf (n.item 0) (S.Later (formula_tree what.now.value) (bindings_of env.now.value))
         S.none)
-        1)) }
+        1) }
     ensures plain { IfOk result IsPlain }
 {
     let mut news = Vec::new(alloc);
@@ -56,14 +55,13 @@ pub fn decide_weak_next(
     env: &Rc<Env>,
     place: Place,
 ) -> Result<Decision, NoMemory>
-    ensures outcome { IfOk result (λ d.
-        Decides d (λ n.
+    ensures outcome { IfOkDecides result (λ n.
         row.by_status (plain_place place)
         (row.becomes
         (S.leaf (n.item 0) (S.Later (formula_tree what.now.value) (bindings_of env.now.value))
         S.none)
         1)
-        row.vanishes)) }
+        row.vanishes) }
     ensures plain { IfOk result IsPlain }
 {
     if place.goes {
@@ -83,13 +81,9 @@ pub fn decide_if_more(
     env: &Rc<Env>,
     place: Place,
 ) -> Result<Decision, NoMemory>
-    ensures outcome { IfOk result (λ d.
-        Decides d (λ n.
+    ensures outcome { IfOkDecides result (λ n.
         row.by_status (plain_place place)
-        (row.becomes
-        (S.leaf (n.item 0) (S.Do (formula_tree what.now.value) (bindings_of env.now.value)) S.none)
-        1)
-        row.vanishes)) }
+        (becomes_due (formula_tree what.now.value) (bindings_of env.now.value) n) row.vanishes) }
     ensures plain { IfOk result IsPlain }
 {
     if place.goes {
@@ -109,12 +103,9 @@ pub fn decide_if_empty(
     env: &Rc<Env>,
     place: Place,
 ) -> Result<Decision, NoMemory>
-    ensures outcome { IfOk result (λ d.
-        Decides d (λ n.
+    ensures outcome { IfOkDecides result (λ n.
         row.by_status (plain_place place) row.vanishes
-        (row.becomes
-        (S.leaf (n.item 0) (S.Do (formula_tree what.now.value) (bindings_of env.now.value)) S.none)
-        1))) }
+        (becomes_due (formula_tree what.now.value) (bindings_of env.now.value) n)) }
     ensures plain { IfOk result IsPlain }
 {
     if place.goes {
@@ -135,14 +126,13 @@ pub fn decide_always(
     env: &Rc<Env>,
 ) -> Result<Decision, NoMemory>
     requires { formula_tree all.now.value ≡ always (formula_tree what.now.value) }
-    ensures outcome { IfOk result (λ d.
-        Decides d (λ n.
+    ensures outcome { IfOkDecides result (λ n.
         row.becomes
         (S.leaf (n.item 0) (S.Do (formula_tree what.now.value) (bindings_of env.now.value))
         (S.leaf (n.item 1)
         (S.Do (weak_next (always (formula_tree what.now.value))) (bindings_of env.now.value))
         S.none))
-        2)) }
+        2) }
     ensures plain { IfOk result IsPlain }
 {
     let again = Rc::new(alloc, Formula::WeakNext(all.clone()?))?;
@@ -153,10 +143,9 @@ pub fn decide_always(
 
 /// Each operand, in order.
 pub fn decide_and(alloc: Global, operands: &Formulas, env: &Rc<Env>) -> Result<Decision, NoMemory>
-    ensures outcome { IfOk result (λ d.
-        Decides d (λ n.
+    ensures outcome { IfOkDecides result (λ n.
         row.becomes (row.all_do (formula_trees operands.now) (bindings_of env.now.value) n.item 0)
-        (row.count_of (formula_trees operands.now)))) }
+        (row.count_of (formula_trees operands.now))) }
     ensures plain { IfOk result IsPlain }
 {
     let mut news = Vec::new(alloc);
@@ -191,18 +180,13 @@ pub fn decide_while(
     body: &Rc<Formula>,
     env: &Rc<Env>,
 ) -> Result<Decision, NoMemory>
-    ensures outcome { IfOk result (λ d.
-        Decides d (λ n.
-        row.becomes
-        (S.leaf (n.item 0)
-        (S.Do
+    ensures outcome { IfOkDecides result (λ n.
+        becomes_due
         (branch (expr_tree condition.now.value)
         (chop (conjunction (formulas_of (formula_tree body.now.value ∷ more ∷ [])))
         (formula_tree whole.now.value))
         empty)
-        (bindings_of env.now.value))
-        S.none)
-        1)) }
+        (bindings_of env.now.value) n) }
     ensures plain { IfOk result IsPlain }
 {
     let turn = turn(alloc, whole, body)?;
@@ -234,12 +218,12 @@ pub fn decide(
     match &*phrase.what {
         Formula::True => Ok(nothing(alloc)),
         Formula::Test(e) => {
-            let found = find_truth(alloc, e, env, store, setting)?;
+            let found = eval(alloc, e, env, store, setting.defs)?;
             Ok(decide_test(alloc, found))
         }
         Formula::Eq(l, r) => decide_equation(alloc, l, r, env, store, setting),
         Formula::NextEq(k, t, e) => {
-            let found = find_value(alloc, e, env, store, setting)?;
+            let found = eval(alloc, e, env, store, setting.defs)?;
             decide_next_equation(alloc, *k, t, found, env, place)
         }
         Formula::Empty => Ok(end(alloc, place)),
@@ -251,18 +235,18 @@ pub fn decide(
         Formula::Always(w) => decide_always(alloc, &phrase.what, w, env),
         Formula::And(operands) => decide_and(alloc, operands, env),
         Formula::If(b, yes, no) => {
-            let found = find_truth(alloc, b, env, store, setting)?;
+            let found = eval(alloc, b, env, store, setting.defs)?;
             decide_branch(alloc, found, yes, no, env)
         }
         Formula::Len(e) => {
-            let found = find_number(alloc, e, env, store, setting)?;
+            let found = eval(alloc, e, env, store, setting.defs)?;
             decide_len(alloc, found, env)
         }
         Formula::Assign(t, e) => {
-            let found = find_value(alloc, e, env, store, setting)?;
+            let found = eval(alloc, e, env, store, setting.defs)?;
             decide_assign(alloc, t, found, env)
         }
-        Formula::Chop(w, v) => decide_chop(w, v, env, place),
+        Formula::Chop(w, v) => decide_region(RegionKind::Left, w, v, env, place),
         Formula::While(b, w) => decide_while(alloc, &phrase.what, b, w, env),
         Formula::For {
             name,
@@ -270,7 +254,7 @@ pub fn decide(
             to,
             body,
         } => {
-            let found = find_number(alloc, to, env, store, setting)?;
+            let found = eval(alloc, to, env, store, setting.defs)?;
             let body = shared_under(body, env)?;
             decide_turns(alloc, name, *from, found, &body, place)
         }
@@ -280,11 +264,11 @@ pub fn decide(
             to,
             body,
         } => {
-            let found = find_number(alloc, to, env, store, setting)?;
+            let found = eval(alloc, to, env, store, setting.defs)?;
             let body = shared_under(body, env)?;
             decide_instances(alloc, name, *from, found, &body)
         }
-        Formula::Proj(w, v) => decide_project(w, v, env, place),
+        Formula::Proj(w, v) => decide_region(RegionKind::Outer, v, w, env, place),
         Formula::Exists {
             name,
             lasting,

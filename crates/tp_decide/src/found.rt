@@ -1,6 +1,6 @@
 // What is found where an expression is evaluated: a value of the kind that is needed, or what its item does without one.
 ghost use Rattle.std.specs.Prelude.{IfOk, IfErr};
-ghost use Rattle.tp_kernel.specs.Read.{expr_tree, expr_trees, definitions_of, bindings_of};
+ghost use Rattle.tp_kernel.specs.Read.{expr_tree, definitions_of, bindings_of};
 ghost use Rattle.tp_eval.specs.Answers.{outcome_tree};
 ghost use Rattle.tp_eval.specs.Outcome.{outcome};
 ghost use Rattle.tp_scene.specs.Step as row;
@@ -37,25 +37,25 @@ fn wrong_kind() -> Decision
     Decision::Clashes(Clash::NoValue(FaultKind::WrongKind))
 }
 
-fn truth(outcome: Outcome) -> Result<bool, Decision>
+/// The truth value that it gave.
+pub fn truth(outcome: Outcome) -> Result<bool, Decision>
     ensures found { TruthIn (outcome_tree outcome) result }
     ensures plain { IfErr result IsPlain }
 {
     match value(outcome)? {
         Value::Truth(b) => Ok(b),
-        Value::Num(_) => Err(wrong_kind()),
-        Value::List(_) => Err(wrong_kind()),
+        Value::Num(_) | Value::List(_) => Err(wrong_kind()),
     }
 }
 
-fn number(outcome: Outcome) -> Result<Number, Decision>
+/// The number that it gave.
+pub fn number(outcome: Outcome) -> Result<Number, Decision>
     ensures found { NumberIn (outcome_tree outcome) result }
     ensures plain { IfErr result IsPlain }
 {
     match value(outcome)? {
         Value::Num(n) => Ok(n),
-        Value::Truth(_) => Err(wrong_kind()),
-        Value::List(_) => Err(wrong_kind()),
+        Value::Truth(_) | Value::List(_) => Err(wrong_kind()),
     }
 }
 
@@ -75,40 +75,4 @@ pub fn find_value(
 {
     let outcome = eval(alloc, expr, env, store, setting.defs)?;
     Ok(value(outcome))
-}
-
-/// The truth value of the expression.
-pub fn find_truth(
-    alloc: Global,
-    expr: &Expr,
-    env: &Env,
-    store: &Store,
-    setting: &Setting,
-) -> Result<Result<bool, Decision>, NoMemory>
-    ensures found { IfOk result
-        (TruthIn
-        (outcome store.now.facts (definitions_of setting.now.defs.now) (expr_tree expr.now)
-        (bindings_of env.now))) }
-    ensures plain { IfOk result (λ found. IfErr found IsPlain) }
-{
-    let outcome = eval(alloc, expr, env, store, setting.defs)?;
-    Ok(truth(outcome))
-}
-
-/// The number that the expression is.
-pub fn find_number(
-    alloc: Global,
-    expr: &Expr,
-    env: &Env,
-    store: &Store,
-    setting: &Setting,
-) -> Result<Result<Number, Decision>, NoMemory>
-    ensures found { IfOk result
-        (NumberIn
-        (outcome store.now.facts (definitions_of setting.now.defs.now) (expr_tree expr.now)
-        (bindings_of env.now))) }
-    ensures plain { IfOk result (λ found. IfErr found IsPlain) }
-{
-    let outcome = eval(alloc, expr, env, store, setting.defs)?;
-    Ok(number(outcome))
 }

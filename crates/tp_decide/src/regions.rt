@@ -1,10 +1,10 @@
 // Formulas that become regions, or bind a local.
-ghost use Rattle.std.specs.Prelude.{◌≡◌, ◌++◌, ◌∷◌, [], Some, None, IfOk};
+ghost use Rattle.std.specs.Prelude.{◌++◌, ◌∷◌, [], Some, None, IfOk};
 ghost use Rattle.tp_meaning.specs.Syntax.{place_binding};
 ghost use Rattle.tp_kernel.specs.Read.{formula_tree, bindings_of};
 ghost use Rattle.tp_scene.specs.Scene as S;
 ghost use Rattle.tp_scene.specs.Step as row;
-ghost use Rattle.tp_decide.specs.Decided.{Decides};
+ghost use Rattle.tp_decide.specs.Decided.{Decides, IfOkDecides, holding};
 ghost use Rattle.tp_decide.specs.Fits.{IsPlain};
 ghost use Rattle.tp_decide.specs.ReadPhrase.{formula_of, env_of};
 
@@ -18,82 +18,59 @@ use tp_value::{NoMemory, Text};
 // The greatest depth of a region.
 const REGION_LIMIT: u32 = 400;
 
-/// A new left region, unless it is too deep.
-pub fn split(place: Place, first: Phrase, after: Phrase) -> Decision
+/// The items that hold a new region: a left one, which another formula follows; or an outer one, with the piece of its projection.
+#[derive(Clone, Copy)]
+pub enum RegionKind {
+    Left,
+    Outer,
+}
+
+/// A new region with the first phrase, and the second beside it, unless it is too deep.
+pub fn divide(place: Place, kind: RegionKind, inside: Phrase, beside: Phrase) -> Decision
     ensures outcome { Decides result (λ n.
         row.with_region place.depth
-        (S.split_then (n.item 1)
-        (row.region_of n.region (n.item 0) (formula_of first) (env_of first))
-        (formula_of after) (env_of after) S.none)
+        (holding kind (n.item 1)
+        (row.region_of n.region (n.item 0) (formula_of inside) (env_of inside))
+        (formula_of beside) (env_of beside) S.none)
         2) }
     ensures plain { IsPlain result }
 {
-    if place.depth < REGION_LIMIT {
-        Decision::Splits { first, after }
-    } else {
-        Decision::Passes(LimitKind::Nest)
+    if place.depth >= REGION_LIMIT {
+        return Decision::Passes(LimitKind::Nest);
+    }
+    match kind {
+        RegionKind::Left => Decision::Splits {
+            first: inside,
+            after: beside,
+        },
+        RegionKind::Outer => Decision::Opens {
+            outer: inside,
+            piece: beside,
+        },
     }
 }
 
-// A new outer region, unless it is too deep.
-fn open(place: Place, outer: Phrase, piece: Phrase) -> Decision
-    ensures outcome { Decides result (λ n.
+/// A region for the first formula, and the second beside it: for the states up to the one where the second begins, or for those that the
+/// pieces end in.
+pub fn decide_region(
+    kind: RegionKind,
+    inside: &Rc<Formula>,
+    beside: &Rc<Formula>,
+    env: &Rc<Env>,
+    place: Place,
+) -> Result<Decision, NoMemory>
+    ensures outcome { IfOkDecides result (λ n.
         row.with_region place.depth
-        (S.opened_then (n.item 1)
-        (row.region_of n.region (n.item 0) (formula_of outer) (env_of outer))
-        (formula_of piece) (env_of piece) S.none)
+        (holding kind (n.item 1)
+        (row.region_of n.region (n.item 0) (formula_tree inside.now.value)
+        (bindings_of env.now.value))
+        (formula_tree beside.now.value) (bindings_of env.now.value) S.none)
         2) }
-    ensures plain { IsPlain result }
-{
-    if place.depth < REGION_LIMIT {
-        Decision::Opens { outer, piece }
-    } else {
-        Decision::Passes(LimitKind::Nest)
-    }
-}
-
-/// A region for the first formula, and the second after it.
-pub fn decide_chop(
-    first: &Rc<Formula>,
-    after: &Rc<Formula>,
-    env: &Rc<Env>,
-    place: Place,
-) -> Result<Decision, NoMemory>
-    ensures outcome { IfOk result (λ d.
-        Decides d (λ n.
-        row.with_region place.depth
-        (S.split_then (n.item 1)
-        (row.region_of n.region (n.item 0) (formula_tree first.now.value)
-        (bindings_of env.now.value))
-        (formula_tree after.now.value) (bindings_of env.now.value) S.none)
-        2)) }
     ensures plain { IfOk result IsPlain }
 {
-    let first = shared_under(first, env)?;
-    let after = shared_under(after, env)?;
-    Ok(split(place, first, after))
-}
-
-/// A region for the states that the pieces end in.
-pub fn decide_project(
-    piece: &Rc<Formula>,
-    outer: &Rc<Formula>,
-    env: &Rc<Env>,
-    place: Place,
-) -> Result<Decision, NoMemory>
-    ensures outcome { IfOk result (λ d.
-        Decides d (λ n.
-        row.with_region place.depth
-        (S.opened_then (n.item 1)
-        (row.region_of n.region (n.item 0) (formula_tree outer.now.value)
-        (bindings_of env.now.value))
-        (formula_tree piece.now.value) (bindings_of env.now.value) S.none)
-        2)) }
-    ensures plain { IfOk result IsPlain }
-{
-    let outer = shared_under(outer, env)?;
-    let piece = shared_under(piece, env)?;
-    Ok(open(place, outer, piece))
+    let inside = shared_under(inside, env)?;
+    let beside = shared_under(beside, env)?;
+    Ok(divide(place, kind, inside, beside))
 }
 
 /// The body, with a new local of that name.
@@ -103,8 +80,7 @@ pub fn decide_exists(
     body: &Rc<Formula>,
     env: &Rc<Env>,
 ) -> Result<Decision, NoMemory>
-    ensures outcome { IfOk result (λ d.
-        Decides d (λ n.
+    ensures outcome { IfOkDecides result (λ n.
         row.reduces
         (record {
           news = S.leaf (n.item 0) (S.Do (formula_tree body.now.value)
@@ -116,7 +92,7 @@ pub fn decide_exists(
           local = Some (record { name = name.now; lasting = lasting });
           mark = None;
           facts = [];
-        }))) }
+        })) }
     ensures plain { IfOk result IsPlain }
 {
     let name = name.copy()?;

@@ -1,5 +1,6 @@
 // The sides of equations: what they can set, and what is found there.
-ghost use Rattle.std.specs.Prelude.{◌≡◌, IfOk, None, MatchOption, false, true};
+ghost use Rattle.std.specs.Prelude.{◌≡◌, IfOk, List, None, Some, MatchOption, true};
+ghost use Rattle.std.specs.Option.{option_map};
 ghost use Rattle.tp_value.specs.Read.{tree};
 ghost use Rattle.tp_value.specs.declared.path.Path.{Path};
 ghost use Rattle.tp_meaning.specs.Syntax.{size};
@@ -7,6 +8,7 @@ ghost use Rattle.tp_kernel.specs.Read.{expr_tree, definitions_of, bindings_of};
 ghost use Rattle.tp_eval.specs.Answers.{outcome_tree};
 ghost use Rattle.tp_eval.specs.Evaluate.{is_place as is_place_tree};
 ghost use Rattle.tp_scene.specs.Step as row;
+ghost use Rattle.tp_store.specs.Known.{Variable, IsVariableOf};
 ghost use Rattle.tp_decide.specs.Found.{option_target, side_found, PathIn, IsNoSize};
 ghost use Rattle.tp_decide.specs.Equated.{outcome_at};
 ghost use Rattle.tp_decide.specs.Fits.{IsPathOf, IsTargetOf, ExprFitsStore};
@@ -70,32 +72,14 @@ fn measured(expr: &Expr) -> Option<&Expr>
     }
 }
 
-// The length that a side can set which is no place.
-fn find_length(
-    alloc: Global,
-    expr: &Expr,
-    env: &Env,
-    store: &Store,
-    defs: &Defs,
-) -> Result<Option<Target>, NoMemory>
-    requires fits { ExprFitsStore (definitions_of defs.now) store.now.variables (expr_tree expr.now)
-        (bindings_of env.now) }
-    requires no_place { is_place_tree (expr_tree expr.now) ≡ false }
-    ensures outcome { IfOk result (λ o.
-        option_target o
-        ≡ row.target_of (definitions_of defs.now) store.now.facts (expr_tree expr.now)
-        (bindings_of env.now)) }
-    ensures variables { IfOk result (IsTargetOf store.now.variables) }
+// The length of the list at the path, where there is one.
+fn length_target(path: Option<Path>) -> Option<Target>
+    ensures outcome { option_target result ≡ option_map row.length_at path }
+    ensures variables { (xs : List Variable) → IsPathOf xs path → IsTargetOf xs result }
 {
-    match measured(expr) {
-        Some(inner) => {
-            let path = path_of(alloc, inner, env, store, defs)?;
-            match path {
-                Some(path) => Ok(Some(Target::Length(path))),
-                None => Ok(None),
-            }
-        }
-        None => Ok(None),
+    match path {
+        Some(path) => Some(Target::Length(path)),
+        None => None,
     }
 }
 
@@ -121,39 +105,24 @@ fn found_at(path: &Path, store: &Store) -> Result<Outcome, NoMemory>
     }
 }
 
-// A side that is a place, evaluated once for what it can set and for what is found there.
-fn evaluate_place(
-    alloc: Global,
-    expr: &Expr,
-    env: &Env,
-    store: &Store,
-    defs: &Defs,
-) -> Result<Side, NoMemory>
-    requires fits { ExprFitsStore (definitions_of defs.now) store.now.variables (expr_tree expr.now)
-        (bindings_of env.now) }
-    requires place { is_place_tree (expr_tree expr.now) ≡ true }
+// The side that is the place with this path.
+fn side_at(path: Path, store: &Store) -> Result<Side, NoMemory>
+    requires { IsVariableOf store.now.variables path.var }
     ensures outcome { IfOk result (λ s.
         side_found s
-        ≡ row.side_of (definitions_of defs.now) store.now.facts (expr_tree expr.now)
-        (bindings_of env.now)) }
+        ≡ record {
+          placed = true;
+          target = Some (row.value_at path);
+          found = outcome_at store.now.facts path;
+        }) }
     ensures variables { IfOk result (λ s. IsTargetOf store.now.variables s.target) }
 {
-    let outcome = place(alloc, expr, env, store, defs)?;
-    match outcome {
-        PlaceOutcome::Place(path) => {
-            let found = found_at(&path, store)?;
-            Ok(Side {
-                placed: true,
-                target: Some(Target::Value(path)),
-                found,
-            })
-        }
-        PlaceOutcome::Other(found) => Ok(Side {
-            placed: true,
-            target: None,
-            found,
-        }),
-    }
+    let found = found_at(&path, store)?;
+    Ok(Side {
+        placed: true,
+        target: Some(Target::Value(path)),
+        found,
+    })
 }
 
 /// The side that the expression is. A place is evaluated once, for what it can set and for what is found there.
@@ -173,10 +142,27 @@ pub fn side_of(
     ensures variables { IfOk result (λ s. IsTargetOf store.now.variables s.target) }
 {
     if is_place(expr) {
-        let side = evaluate_place(alloc, expr, env, store, defs)?;
-        return Ok(side);
+        match place(alloc, expr, env, store, defs)? {
+            PlaceOutcome::Place(path) => {
+                let side = side_at(path, store)?;
+                return Ok(side);
+            }
+            PlaceOutcome::Other(found) => {
+                return Ok(Side {
+                    placed: true,
+                    target: None,
+                    found,
+                });
+            }
+        }
     }
-    let target = find_length(alloc, expr, env, store, defs)?;
+    let target = match measured(expr) {
+        Some(inner) => {
+            let path = path_of(alloc, inner, env, store, defs)?;
+            length_target(path)
+        }
+        None => None,
+    };
     let found = eval(alloc, expr, env, store, defs)?;
     Ok(Side {
         placed: is_placed(expr),

@@ -14,7 +14,6 @@ use Rattle.tp_scene.specs.Scene as S
 use Rattle.tp_scene.specs.Step as row
 use Rattle.tp_decide.specs.ReadPhrase.{formula_of, env_of}
 use Rattle.tp_decide.specs.Decided.{plain_place}
-use Rattle.tp_decide.specs.Found.{TruthIn, NumberIn, ValueIn}
 use Rattle.tp_decide.proofs.CallLemmas.{arguments_are_places}
 use Rattle.tp_decide.proofs.FormulaLemmas.{evaluated_row, counted_same, decided_row}
 use Rattle.tp_decide.proofs.formula.decide.Goals as goal
@@ -34,30 +33,30 @@ returns-in-More-clause-variables c = c.go.ensures.plain c.args.store.now.variabl
 pub returns-in_ok-found-in-NextEq-clause-outcome : goal.returns-in_ok-found-in-NextEq-clause-outcome
 returns-in_ok-found-in-NextEq-clause-outcome c =
     evaluated_row c.args.store.now.facts (definitions_of c.args.setting.now.defs.now) (inputs_of c.args.setting.now.inputs.now) c.args.setting.now.state c.args.phrase.now (plain_place c.args.place) c.decide_next_equation.result
-    (λ o. ValueIn o c.in_ok-found-in-NextEq.found) (λ o n. row.with_value o (λ v. row.going (plain_place c.args.place) (S.leaf (n.item 0) (S.Later (nexts (c.in-NextEq.k - 1) (equation (expr_tree c.in-NextEq.t.value) (known v))) (env_of c.args.phrase.now)) S.none) 1))
-    _ c.in-NextEq.e.value _ _ c.deref-in-NextEq.ensures c.deref-in-NextEq-2.ensures c.in_ok-found-in-NextEq.ensures.found (ap formula_tree (sym c.deref.ensures ∙ c.in-NextEq.is) ∙ formula_next_eq c.in-NextEq.k c.in-NextEq.t c.in-NextEq.e)
+    (λ o n. row.with_value o (λ v. row.going (plain_place c.args.place) (S.leaf (n.item 0) (S.Later (nexts (c.in-NextEq.k - 1) (equation (expr_tree c.in-NextEq.t.value) (known v))) (env_of c.args.phrase.now)) S.none) 1)) _
+    _ c.in-NextEq.e.value _ _ c.deref-in-NextEq.ensures c.deref-in-NextEq-2.ensures c.in_ok-found-in-NextEq.ensures (ap formula_tree (sym c.deref.ensures ∙ c.in-NextEq.is) ∙ formula_next_eq c.in-NextEq.k c.in-NextEq.t c.in-NextEq.e)
     (λ n. refl) c.decide_next_equation.ensures.outcome
 
 pub returns-in_ok-found-in-If-clause-outcome : goal.returns-in_ok-found-in-If-clause-outcome
 returns-in_ok-found-in-If-clause-outcome c =
     evaluated_row c.args.store.now.facts (definitions_of c.args.setting.now.defs.now) (inputs_of c.args.setting.now.inputs.now) c.args.setting.now.state c.args.phrase.now (plain_place c.args.place) c.decide_branch.result
-    (λ o. TruthIn o c.in_ok-found-in-If.found) (λ o n. row.with_truth o (λ b. row.becomes (S.leaf (n.item 0) (S.Do (if b then formula_tree c.in-If.yes.value else formula_tree c.in-If.no.value) (env_of c.args.phrase.now)) S.none) 1))
-    _ c.in-If.b.value _ _ c.deref-in-If.ensures c.deref-in-If-2.ensures c.in_ok-found-in-If.ensures.found (ap formula_tree (sym c.deref.ensures ∙ c.in-If.is) ∙ formula_if c.in-If.b c.in-If.yes c.in-If.no)
+    (λ o n. row.with_truth o (λ b. row.becomes (S.leaf (n.item 0) (S.Do (if b then formula_tree c.in-If.yes.value else formula_tree c.in-If.no.value) (env_of c.args.phrase.now)) S.none) 1)) _
+    _ c.in-If.b.value _ _ c.deref-in-If.ensures c.deref-in-If-2.ensures c.in_ok-found-in-If.ensures (ap formula_tree (sym c.deref.ensures ∙ c.in-If.is) ∙ formula_if c.in-If.b c.in-If.yes c.in-If.no)
     (λ n. refl) c.decide_branch.ensures.outcome
 
 pub returns-in_ok-found-in-Assign-clause-outcome : goal.returns-in_ok-found-in-Assign-clause-outcome
 returns-in_ok-found-in-Assign-clause-outcome c =
     evaluated_row c.args.store.now.facts (definitions_of c.args.setting.now.defs.now) (inputs_of c.args.setting.now.inputs.now) c.args.setting.now.state c.args.phrase.now (plain_place c.args.place) c.decide_assign.result
-    (λ o. ValueIn o c.in_ok-found-in-Assign.found) (λ o n. row.with_value o (λ v. row.becomes (S.leaf (n.item 0) (S.Do (always (if_empty (equation (expr_tree c.in-Assign.t.value) (known v)))) (env_of c.args.phrase.now)) S.none) 1))
-    _ c.in-Assign.e.value _ _ c.deref-in-Assign.ensures c.deref-in-Assign-2.ensures c.in_ok-found-in-Assign.ensures.found (ap formula_tree (sym c.deref.ensures ∙ c.in-Assign.is) ∙ formula_assign c.in-Assign.t c.in-Assign.e)
+    (λ o n. row.with_value o (λ v. row.becomes (S.leaf (n.item 0) (S.Do (always (if_empty (equation (expr_tree c.in-Assign.t.value) (known v)))) (env_of c.args.phrase.now)) S.none) 1)) _
+    _ c.in-Assign.e.value _ _ c.deref-in-Assign.ensures c.deref-in-Assign-2.ensures c.in_ok-found-in-Assign.ensures (ap formula_tree (sym c.deref.ensures ∙ c.in-Assign.is) ∙ formula_assign c.in-Assign.t c.in-Assign.e)
     (λ n. refl) c.decide_assign.ensures.outcome
 
 pub returns-in_ok-body-in-For-clause-outcome : goal.returns-in_ok-body-in-For-clause-outcome
 returns-in_ok-body-in-For-clause-outcome c =
     let k = to_z number_width (of_z number_width c.in-For.from) in
     evaluated_row c.args.store.now.facts (definitions_of c.args.setting.now.defs.now) (inputs_of c.args.setting.now.inputs.now) c.args.setting.now.state c.args.phrase.now (plain_place c.args.place) c.decide_turns.result
-    (λ o. NumberIn o c.in_ok-found-in-For.found) (λ o n. row.with_number o (λ m. row.turns c.in-For.name k m (formula_of c.in_ok-body-in-For.body) (env_of c.in_ok-body-in-For.body) (plain_place c.args.place) n))
-    _ c.in-For.to.value _ _ c.deref-in-For.ensures c.deref-in-For-2.ensures c.in_ok-found-in-For.ensures.found (ap formula_tree (sym c.deref.ensures ∙ c.in-For.is) ∙ formula_for c.in-For.name c.in-For.from c.in-For.to c.in-For.body)
+    (λ o n. row.with_number o (λ m. row.turns c.in-For.name k m (formula_of c.in_ok-body-in-For.body) (env_of c.in_ok-body-in-For.body) (plain_place c.args.place) n)) _
+    _ c.in-For.to.value _ _ c.deref-in-For.ensures c.deref-in-For-2.ensures c.in_ok-found-in-For.ensures (ap formula_tree (sym c.deref.ensures ∙ c.in-For.is) ∙ formula_for c.in-For.name c.in-For.from c.in-For.to c.in-For.body)
     (λ n. counted_same (λ i f bs. row.with_number (outcome c.args.store.now.facts (definitions_of c.args.setting.now.defs.now) (expr_tree c.in-For.to.value) (env_of c.args.phrase.now)) (λ m. row.turns c.in-For.name i m f bs (plain_place c.args.place) n))
     k c.in-For.from _ _ _ _ (omega (arith, ints)) c.in_ok-body-in-For.ensures.formula c.in_ok-body-in-For.ensures.bindings) c.decide_turns.ensures.outcome
 
@@ -65,8 +64,8 @@ pub returns-in_ok-body-in-Forall-clause-outcome : goal.returns-in_ok-body-in-For
 returns-in_ok-body-in-Forall-clause-outcome c =
     let k = to_z number_width (of_z number_width c.in-Forall.from) in
     evaluated_row c.args.store.now.facts (definitions_of c.args.setting.now.defs.now) (inputs_of c.args.setting.now.inputs.now) c.args.setting.now.state c.args.phrase.now (plain_place c.args.place) c.decide_instances.result
-    (λ o. NumberIn o c.in_ok-found-in-Forall.found) (λ o n. row.with_number o (λ m. row.instances c.in-Forall.name k m (formula_of c.in_ok-body-in-Forall.body) (env_of c.in_ok-body-in-Forall.body) n))
-    _ c.in-Forall.to.value _ _ c.deref-in-Forall.ensures c.deref-in-Forall-2.ensures c.in_ok-found-in-Forall.ensures.found (ap formula_tree (sym c.deref.ensures ∙ c.in-Forall.is) ∙ formula_forall c.in-Forall.name c.in-Forall.from c.in-Forall.to c.in-Forall.body)
+    (λ o n. row.with_number o (λ m. row.instances c.in-Forall.name k m (formula_of c.in_ok-body-in-Forall.body) (env_of c.in_ok-body-in-Forall.body) n)) _
+    _ c.in-Forall.to.value _ _ c.deref-in-Forall.ensures c.deref-in-Forall-2.ensures c.in_ok-found-in-Forall.ensures (ap formula_tree (sym c.deref.ensures ∙ c.in-Forall.is) ∙ formula_forall c.in-Forall.name c.in-Forall.from c.in-Forall.to c.in-Forall.body)
     (λ n. counted_same (λ i f bs. row.with_number (outcome c.args.store.now.facts (definitions_of c.args.setting.now.defs.now) (expr_tree c.in-Forall.to.value) (env_of c.args.phrase.now)) (λ m. row.instances c.in-Forall.name i m f bs n))
     k c.in-Forall.from _ _ _ _ (omega (arith, ints)) c.in_ok-body-in-Forall.ensures.formula c.in_ok-body-in-Forall.ensures.bindings) c.decide_instances.ensures.outcome
 
