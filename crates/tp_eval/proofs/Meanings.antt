@@ -29,22 +29,27 @@ module _ (facts : List Fact) (Agreeing : Type 0) (defs : List Definition) (kinds
       ap (λ (o : Option Definition). o >>= λ g. g.expr >>= λ y. value_by defs (calls_at defs d) y x s a) h
       ∙ ap (λ (o : Option ExprTree). o >>= λ y. value_by defs (calls_at defs d) y x s a) k
 
-  mutual
-    pub evaluate_agrees : (l d : ℕ) → l ≤ d → ValueAgrees l d
-    evaluate_agrees zero d le n e env h c = tt
-    evaluate_agrees (suc l) zero le n e env h c = absurd (omega arith)
-    evaluate_agrees (suc l) (suc d) le n e env h c = value_agrees facts Agreeing defs kinds s locals a right
-        (λ x. evaluate facts defs l x env) (λ x. find_place facts defs l x env) env (calls_at defs (suc d)) n
-        (λ x k. evaluate_agrees l (suc d) (omega arith) n x env k) (λ x k. find_place_agrees l (suc d) (omega arith) n x env k)
-        (λ x args. evaluate facts defs l x args)
-        (λ p f x i j args k. same_meaning facts Agreeing Some (evaluate facts defs l x args k) (calls_at defs (suc d) p (env_here args) s a) (value_by defs (calls_at defs d) x (env_here args) s a)
-        (λ w. called d p f x (env_here args) i j) (evaluate_agrees l d (omega arith) (length f.parameters) x args (λ w. (fit w).expr p f i x j) k))
-        e h c
+  -- both, since operands hold indices, and indices are expressions
+  agree : (l d : ℕ) → l ≤ d → ValueAgrees l d × PlaceAgrees l d
+  agree zero d le = ((λ n e env h c. tt), (λ n e env h c. tt))
+  agree (suc l) zero le = absurd (omega arith)
+  agree (suc l) (suc d) le =
+      let below = agree l (suc d) (omega arith) in
+      let inside = agree l d (omega arith) in (
+        (λ n e env h c. value_agrees facts Agreeing defs kinds s locals a right
+            (λ x. evaluate facts defs l x env) (λ x. find_place facts defs l x env) env (calls_at defs (suc d)) n
+            (λ x k. below.0 n x env k) (λ x k. below.1 n x env k)
+            (λ x args. evaluate facts defs l x args)
+            (λ p f x i j args k. same_meaning facts Agreeing Some (evaluate facts defs l x args k) (calls_at defs (suc d) p (env_here args) s a) (value_by defs (calls_at defs d) x (env_here args) s a)
+            (λ w. called d p f x (env_here args) i j) (inside.0 (length f.parameters) x args (λ w. (fit w).expr p f i x j) k))
+            e h c),
+        (λ n e env h c. place_agrees facts Agreeing defs kinds s locals a right
+            (λ x. evaluate facts defs l x env) (λ x. find_place facts defs l x env) env (calls_at defs (suc d)) n
+            (λ x k. below.0 n x env k) (λ x k. below.1 n x env k) e h c),
+      )
 
-    pub find_place_agrees : (l d : ℕ) → l ≤ d → PlaceAgrees l d
-    find_place_agrees zero d le n e env h c = tt
-    find_place_agrees (suc l) zero le n e env h c = absurd (omega arith)
-    find_place_agrees (suc l) (suc d) le n e env h c = place_agrees facts Agreeing defs kinds s locals a right
-        (λ x. evaluate facts defs l x env) (λ x. find_place facts defs l x env) env (calls_at defs (suc d)) n
-        (λ x k. evaluate_agrees l (suc d) (omega arith) n x env k) (λ x k. find_place_agrees l (suc d) (omega arith) n x env k)
-        e h c
+  pub evaluate_agrees : (l d : ℕ) → l ≤ d → ValueAgrees l d
+  evaluate_agrees l d le = (agree l d le).0
+
+  pub find_place_agrees : (l d : ℕ) → l ≤ d → PlaceAgrees l d
+  find_place_agrees l d le = (agree l d le).1

@@ -5,16 +5,13 @@ use Rattle.tp_value.specs.declared.path.Path.{Path}
 use Rattle.tp_value.specs.declared.path.Fact.{Fact}
 use Rattle.tp_kernel.specs.declared.fault.FaultKind.{FaultKind}
 use Rattle.tp_meaning.specs.Syntax.{ExprTree, Definition, BindingTree, place_binding}
-use Rattle.tp_meaning.specs.Fits.{ExprFits, DefinitionsFit}
 use Rattle.tp_meaning.specs.Course.{Course}
 use Rattle.tp_meaning.specs.Bindings.{Locals, meaning_of, meanings_of}
 use Rattle.tp_meaning.specs.Value.{Meaning, fixed, place_by, calls_at}
-use Rattle.tp_store.specs.Facts.{AgreesWithAll}
-use Rattle.tp_store.specs.Known.{NoClash}
 use Rattle.tp_eval.specs.Evaluate.{depth_limit}
 use Rattle.tp_eval.specs.Outcome as found
 use Rattle.tp_eval.specs.Outcome.{place_outcome}
-use Rattle.tp_eval.specs.Right.{values_at}
+use Rattle.tp_eval.specs.Right.{HoldsInStates}
 
 -- what a place means at a depth of calls, its indices read at a position
 abbrev pub meant_place : List Definition → (depth : ℕ) → (kinds : List Bool) → Course → Locals
@@ -38,12 +35,5 @@ module _ (facts : List Fact) (defs : List Definition) (kinds : List Bool) (s : C
     pub from_faults : (k : FaultKind) → place_outcome facts defs e env ≡ found.other (found.fault k)
         → (d : ℕ) → meant_place defs d kinds s locals a e env ≡ None
 
--- Places are right in each state that agrees with the facts, where the definitions and the
--- expression fit the program's variables.
 abbrev pub PlacesMean : Type 0
-PlacesMean =
-    (facts : List Fact) (defs : List Definition) (kinds : List Bool) (s : Course) (locals : Locals)
-    (a : ℕ) (e : ExprTree) (env : List BindingTree)
-    → NoClash facts → DefinitionsFit defs kinds → ExprFits defs kinds e (length env)
-    → AgreesWithAll (values_at (length kinds) s locals a) facts
-    → PlaceIsRight facts defs kinds s locals a e env
+PlacesMean = HoldsInStates PlaceIsRight

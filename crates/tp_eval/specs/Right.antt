@@ -62,15 +62,20 @@ module _ (facts : List Fact) (defs : List Definition) (kinds : List Bool) (s : C
         → (d : ℕ) → depth_limit ≤ d → (n : ℕ) → shape_at_path p.at (value_here p) ≡ Some (Items n)
         → meant_here d (size e) env ≡ Some (num (pos n))
 
--- Outcomes are right in each state that agrees with the facts, where the definitions and the
--- expression fit the program's variables.
-abbrev pub OutcomesMean : Type 0
-OutcomesMean =
+-- It holds in each state that agrees with the facts, where the definitions and the expression fit
+-- the program's variables.
+abbrev pub HoldsInStates : ((facts : List Fact) (defs : List Definition) (kinds : List Bool)
+    (s : Course) (locals : Locals) (a : ℕ) (e : ExprTree) (env : List BindingTree) → Type 0)
+    → Type 0
+HoldsInStates Holds =
     (facts : List Fact) (defs : List Definition) (kinds : List Bool) (s : Course) (locals : Locals)
     (a : ℕ) (e : ExprTree) (env : List BindingTree)
     → NoClash facts → DefinitionsFit defs kinds → ExprFits defs kinds e (length env)
     → AgreesWithAll (values_at (length kinds) s locals a) facts
-    → OutcomesAreRight facts defs kinds s locals a e env
+    → Holds facts defs kinds s locals a e env
+
+abbrev pub OutcomesMean : Type 0
+OutcomesMean = HoldsInStates OutcomesAreRight
 
 -- A path that is waited for has no shape yet, and none is excluded there.
 abbrev pub WaitsAreUndecided : Type 0

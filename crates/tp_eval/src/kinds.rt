@@ -17,8 +17,7 @@ pub fn number_of(value: Value) -> Result<Number, Halt>
 {
     match value {
         Value::Num(n) => Ok(n),
-        Value::Truth(_) => Err(Halt::Faults(FaultKind::WrongKind)),
-        Value::List(_) => Err(Halt::Faults(FaultKind::WrongKind)),
+        Value::Truth(_) | Value::List(_) => Err(Halt::Faults(FaultKind::WrongKind)),
     }
 }
 
@@ -27,9 +26,8 @@ pub fn truth_of(value: Value) -> Result<bool, Halt>
     ensures { AnswersEvaluation as_it_is result (truth_in (tree value)) }
 {
     match value {
-        Value::Num(_) => Err(Halt::Faults(FaultKind::WrongKind)),
         Value::Truth(b) => Ok(b),
-        Value::List(_) => Err(Halt::Faults(FaultKind::WrongKind)),
+        Value::Num(_) | Value::List(_) => Err(Halt::Faults(FaultKind::WrongKind)),
     }
 }
 
@@ -38,9 +36,8 @@ pub fn items_of(value: Value) -> Result<Items, Halt>
     ensures { AnswersEvaluation (λ all. map tree all.items.items) result (list_items (tree value)) }
 {
     match value {
-        Value::Num(_) => Err(Halt::Faults(FaultKind::WrongKind)),
-        Value::Truth(_) => Err(Halt::Faults(FaultKind::WrongKind)),
         Value::List(all) => Ok(all),
+        Value::Num(_) | Value::Truth(_) => Err(Halt::Faults(FaultKind::WrongKind)),
     }
 }
 
