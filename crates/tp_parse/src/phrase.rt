@@ -9,12 +9,12 @@ ghost use Rattle.tp_parse.specs.declared.head.Head.TheVariants.{Paired};
 ghost use Rattle.tp_parse.specs.declared.mark.Role.TheVariants.{Ends};
 
 use crate::head::{Head, Pair};
-use crate::mark::{Mark, Prefix, Role};
+use crate::mark::{Enclosure, Mark, Prefix, Role};
 use crate::operands::Operands;
 use crate::parser::Parser;
 use crate::phrases::{
-    Measured, of_atom, of_chain, of_choice, of_choice_else, of_enclosed, of_exists, of_index,
-    of_infix, of_operands, of_pair, of_prefix,
+    Measured, OneOperand, TwoOperands, of_atom, of_chain, of_choice_else, of_one, of_operands,
+    of_two, raised,
 };
 use crate::primary::{enclosed_close, enclosed_level, listed_close, listed_level, middle};
 use crate::refusal::Refusal;
@@ -81,7 +81,7 @@ impl Parser<'_> {
         self.deepen(room)?;
         self.take();
         let operand = self.phrase(alloc, level, room)?;
-        of_prefix(alloc, at, prefix, operand)
+        of_one(alloc, at, OneOperand::Prefix(prefix), operand)
     }
 
     #[cycle(phrase)]
@@ -122,13 +122,16 @@ impl Parser<'_> {
             Head::Enclosed(enclosure) => {
                 let level = enclosed_level(enclosure);
                 let operand = self.part(alloc, level, enclosed_close(enclosure), room)?;
-                of_enclosed(alloc, at, enclosure, operand)
+                match enclosure {
+                    Enclosure::Size => of_one(alloc, at, OneOperand::Size, operand),
+                    Enclosure::Round | Enclosure::Curly => Ok(raised(operand)),
+                }
             }
             Head::If => self.choice(alloc, room, at),
             Head::Paired(pair) => self.paired(alloc, room, at, pair),
             Head::Exists(names) => {
                 let operand = self.phrase(alloc, CHOP, room)?;
-                of_exists(alloc, at, names, operand)
+                of_one(alloc, at, OneOperand::Exists(names), operand)
             }
         }
     }
@@ -142,7 +145,7 @@ impl Parser<'_> {
     {
         let first = self.part(alloc, CHOP, middle(&pair), room)?;
         let second = self.phrase(alloc, CHOP, room)?;
-        of_pair(alloc, at, pair, first, second)
+        of_two(alloc, at, TwoOperands::Pair(pair), first, second)
     }
 
     /// The condition and the parts of an `if`.
@@ -176,7 +179,7 @@ impl Parser<'_> {
         ensures low { IfOk result (λ r. r.height ≤ room + 1) }
     {
         if !self.sees(Mark::Word(Word::Else)) {
-            return of_choice(alloc, at, condition, first);
+            return of_two(alloc, at, TwoOperands::Choice, condition, first);
         }
         self.take();
         let second = self.phrase(alloc, CHOP, room)?;
@@ -335,7 +338,7 @@ impl Parser<'_> {
         self.fits(room, left.height)?;
         self.take();
         let right = self.phrase(alloc, right_level(op), room)?;
-        of_infix(alloc, at, op, left, right)
+        of_two(alloc, at, TwoOperands::Infix(op), left, right)
     }
 
     #[cycle(phrase)]
@@ -354,7 +357,7 @@ impl Parser<'_> {
         self.fits(room, left.height)?;
         self.take();
         let index = self.part(alloc, CHOP, Mark::Symbol(Symbol::CloseSquare), room)?;
-        of_index(alloc, at, left, index)
+        of_two(alloc, at, TwoOperands::Index, left, index)
     }
 
     #[cycle(phrase)]

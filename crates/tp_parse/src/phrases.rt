@@ -1,13 +1,14 @@
 // Phrases with their heights, and how they are made of their operands.
 ghost use Rattle.std.specs.Prelude.{◌≡◌, ◌+◌, ◌<◌, max, IfOk, IfErr, map};
 ghost use Rattle.tp_parse.specs.Found as spec;
+ghost use Rattle.tp_parse.specs.Found.{found};
 ghost use Rattle.tp_parse.specs.Seen.{seen, all_seen, IsLow};
 ghost use Rattle.tp_parse.specs.declared.refusal.Refusal.TheVariants.{NoMemory};
 ghost use Rattle.tp_tree.specs.Read.{phrase_tree, kind_tree};
 ghost use Rattle.tp_tree.specs.Tree.{phrases_of};
 
 use crate::head::{Atom, Listed, Pair};
-use crate::mark::{Enclosure, Prefix};
+use crate::mark::Prefix;
 use crate::operands::Operands;
 use crate::refusal::Refusal;
 use std::alloc::Global;
@@ -19,6 +20,23 @@ use tp_value::Texts;
 pub struct Measured {
     pub phrase: Phrase,
     pub height: u32,
+}
+
+/// What is made of one operand.
+#[derive(Drop)]
+pub enum OneOperand {
+    Size,
+    Exists(Texts),
+    Prefix(Prefix),
+}
+
+/// What is made of two operands.
+#[derive(Drop)]
+pub enum TwoOperands {
+    Choice,
+    Pair(Pair),
+    Infix(Op),
+    Index,
 }
 
 /// Two operands in memory of their own, and the height of a phrase round them.
@@ -103,45 +121,89 @@ pub fn of_operands(at: u32, listed: Listed, operands: Operands) -> Measured
     make(at, listed_kind(listed, operands.items), height)
 }
 
-pub fn of_enclosed(
-    alloc: Global,
-    at: u32,
-    enclosure: Enclosure,
-    operand: Measured,
-) -> Result<Measured, Refusal>
+/// The phrase in parentheses.
+pub fn raised(operand: Measured) -> Measured
     requires { IsLow operand.height }
-    ensures made { IfOk result (λ r. seen r ≡ spec.of_enclosed at enclosure (seen operand)) }
-    ensures memory { IfErr result (λ refusal. refusal ≡ NoMemory) }
+    ensures { seen result ≡ found (seen operand).tree (operand.height + 1) }
 {
-    let raised = operand.height + 1;
-    match enclosure {
-        Enclosure::Size => {
-            let operand = in_box(alloc, operand)?;
-            Ok(make(at, PhraseKind::Size(operand), raised))
-        }
-        Enclosure::Round | Enclosure::Curly => Ok(Measured {
-            phrase: operand.phrase,
-            height: raised,
-        }),
+    Measured {
+        phrase: operand.phrase,
+        height: operand.height + 1,
     }
 }
 
-pub fn of_choice(
+fn prefixed_kind(prefix: Prefix, operand: Box<Phrase>) -> PhraseKind
+    ensures { kind_tree result ≡ spec.prefixed_kind prefix (phrase_tree operand.value) }
+{
+    match prefix {
+        Prefix::Not => PhraseKind::Not(operand),
+        Prefix::Minus => PhraseKind::Minus(operand),
+        Prefix::Next => PhraseKind::Next(operand),
+    }
+}
+
+fn one_kind(kind: OneOperand, operand: Box<Phrase>) -> PhraseKind
+    ensures { kind_tree result ≡ spec.one_kind kind (phrase_tree operand.value) }
+{
+    match kind {
+        OneOperand::Size => PhraseKind::Size(operand),
+        OneOperand::Exists(names) => PhraseKind::Exists(names, operand),
+        OneOperand::Prefix(prefix) => prefixed_kind(prefix, operand),
+    }
+}
+
+pub fn of_one(
     alloc: Global,
     at: u32,
-    condition: Measured,
-    first: Measured,
+    kind: OneOperand,
+    operand: Measured,
 ) -> Result<Measured, Refusal>
-    requires { IsLow condition.height × IsLow first.height }
-    ensures made { IfOk result (λ r. seen r ≡ spec.of_choice at (seen condition) (seen first)) }
+    requires { IsLow operand.height }
+    ensures made { IfOk result (λ r. seen r ≡ spec.of_one at kind (seen operand)) }
     ensures memory { IfErr result (λ refusal. refusal ≡ NoMemory) }
 {
-    let both = box_both(alloc, condition, first)?;
-    Ok(make(
-        at,
-        PhraseKind::If(both.first, both.second, None),
-        both.height,
-    ))
+    let height = operand.height + 1;
+    let operand = in_box(alloc, operand)?;
+    Ok(make(at, one_kind(kind, operand), height))
+}
+
+fn pair_kind(pair: Pair, first: Box<Phrase>, second: Box<Phrase>) -> PhraseKind
+    ensures { kind_tree result
+        ≡ spec.pair_kind pair (phrase_tree first.value) (phrase_tree second.value) }
+{
+    match pair {
+        Pair::While => PhraseKind::While(first, second),
+        Pair::Repeat => PhraseKind::Repeat(first, second),
+        Pair::For(name) => PhraseKind::For(name, first, second),
+        Pair::Forall(name) => PhraseKind::Forall(name, first, second),
+    }
+}
+
+fn two_kind(kind: TwoOperands, first: Box<Phrase>, second: Box<Phrase>) -> PhraseKind
+    ensures { kind_tree result
+        ≡ spec.two_kind kind (phrase_tree first.value) (phrase_tree second.value) }
+{
+    match kind {
+        TwoOperands::Choice => PhraseKind::If(first, second, None),
+        TwoOperands::Pair(pair) => pair_kind(pair, first, second),
+        TwoOperands::Infix(op) => PhraseKind::Binary(op, first, second),
+        TwoOperands::Index => PhraseKind::Index(first, second),
+    }
+}
+
+pub fn of_two(
+    alloc: Global,
+    at: u32,
+    kind: TwoOperands,
+    first: Measured,
+    second: Measured,
+) -> Result<Measured, Refusal>
+    requires { IsLow first.height × IsLow second.height }
+    ensures made { IfOk result (λ r. seen r ≡ spec.of_two at kind (seen first) (seen second)) }
+    ensures memory { IfErr result (λ refusal. refusal ≡ NoMemory) }
+{
+    let both = box_both(alloc, first, second)?;
+    Ok(make(at, two_kind(kind, both.first, both.second), both.height))
 }
 
 pub fn of_choice_else(
@@ -164,106 +226,6 @@ pub fn of_choice_else(
         PhraseKind::If(both.first, both.second, Some(second)),
         height,
     ))
-}
-
-fn pair_kind(pair: Pair, first: Box<Phrase>, second: Box<Phrase>) -> PhraseKind
-    ensures { kind_tree result
-        ≡ spec.pair_kind pair (phrase_tree first.value) (phrase_tree second.value) }
-{
-    match pair {
-        Pair::While => PhraseKind::While(first, second),
-        Pair::Repeat => PhraseKind::Repeat(first, second),
-        Pair::For(name) => PhraseKind::For(name, first, second),
-        Pair::Forall(name) => PhraseKind::Forall(name, first, second),
-    }
-}
-
-pub fn of_pair(
-    alloc: Global,
-    at: u32,
-    pair: Pair,
-    first: Measured,
-    second: Measured,
-) -> Result<Measured, Refusal>
-    requires { IsLow first.height × IsLow second.height }
-    ensures made { IfOk result (λ r. seen r ≡ spec.of_pair at pair (seen first) (seen second)) }
-    ensures memory { IfErr result (λ refusal. refusal ≡ NoMemory) }
-{
-    let both = box_both(alloc, first, second)?;
-    Ok(make(at, pair_kind(pair, both.first, both.second), both.height))
-}
-
-pub fn of_exists(
-    alloc: Global,
-    at: u32,
-    names: Texts,
-    operand: Measured,
-) -> Result<Measured, Refusal>
-    requires { IsLow operand.height }
-    ensures made { IfOk result (λ r. seen r ≡ spec.of_exists at names (seen operand)) }
-    ensures memory { IfErr result (λ refusal. refusal ≡ NoMemory) }
-{
-    let height = operand.height + 1;
-    let operand = in_box(alloc, operand)?;
-    Ok(make(at, PhraseKind::Exists(names, operand), height))
-}
-
-fn prefixed_kind(prefix: Prefix, operand: Box<Phrase>) -> PhraseKind
-    ensures { kind_tree result ≡ spec.prefixed_kind prefix (phrase_tree operand.value) }
-{
-    match prefix {
-        Prefix::Not => PhraseKind::Not(operand),
-        Prefix::Minus => PhraseKind::Minus(operand),
-        Prefix::Next => PhraseKind::Next(operand),
-    }
-}
-
-pub fn of_prefix(
-    alloc: Global,
-    at: u32,
-    prefix: Prefix,
-    operand: Measured,
-) -> Result<Measured, Refusal>
-    requires { IsLow operand.height }
-    ensures made { IfOk result (λ r. seen r ≡ spec.of_prefix at prefix (seen operand)) }
-    ensures memory { IfErr result (λ refusal. refusal ≡ NoMemory) }
-{
-    let height = operand.height + 1;
-    let operand = in_box(alloc, operand)?;
-    Ok(make(at, prefixed_kind(prefix, operand), height))
-}
-
-pub fn of_infix(
-    alloc: Global,
-    at: u32,
-    op: Op,
-    left: Measured,
-    right: Measured,
-) -> Result<Measured, Refusal>
-    requires { IsLow left.height × IsLow right.height }
-    ensures made { IfOk result (λ r. seen r ≡ spec.of_infix at op (seen left) (seen right)) }
-    ensures memory { IfErr result (λ refusal. refusal ≡ NoMemory) }
-{
-    let both = box_both(alloc, left, right)?;
-    Ok(make(
-        at,
-        PhraseKind::Binary(op, both.first, both.second),
-        both.height,
-    ))
-}
-
-pub fn of_index(
-    alloc: Global,
-    at: u32,
-    whole: Measured,
-    index: Measured,
-) -> Result<Measured, Refusal>
-    requires { IsLow whole.height × IsLow index.height }
-    ensures made { IfOk result (λ r. seen r ≡ spec.of_index at (seen whole) (seen index)) }
-    ensures memory { IfErr result (λ refusal. refusal ≡ NoMemory) }
-{
-    let both = box_both(alloc, whole, index)?;
-    Ok(make(at, PhraseKind::Index(both.first, both.second), both.height))
 }
 
 pub fn of_chain(at: u32, operands: Operands) -> Measured
