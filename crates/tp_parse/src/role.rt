@@ -27,24 +27,26 @@ pub fn same(a: Mark, b: Mark) -> bool
 }
 
 /// Where `<` or `>` is due, `<-` and `>=` are read as two symbols; others stay whole.
+fn halves(symbol: Symbol) -> (Symbol, Symbol)
+    ensures { result ≡ (spec.first_half symbol, spec.second_half symbol) }
+{
+    match symbol {
+        Symbol::Arrow => (Symbol::Less, Symbol::Minus),
+        Symbol::GreaterEqual => (Symbol::Greater, Symbol::Equal),
+        _ => (symbol, symbol),
+    }
+}
+
 pub fn first_half(symbol: Symbol) -> Symbol
     ensures { result ≡ spec.first_half symbol }
 {
-    match symbol {
-        Symbol::Arrow => Symbol::Less,
-        Symbol::GreaterEqual => Symbol::Greater,
-        _ => symbol,
-    }
+    halves(symbol).0
 }
 
 pub fn second_half(symbol: Symbol) -> Symbol
     ensures { result ≡ spec.second_half symbol }
 {
-    match symbol {
-        Symbol::Arrow => Symbol::Minus,
-        Symbol::GreaterEqual => Symbol::Equal,
-        _ => symbol,
-    }
+    halves(symbol).1
 }
 
 /// The operator before an operand that the token is, if it is one.
@@ -59,22 +61,14 @@ fn prefix_of(mark: Mark) -> Option<Prefix>
     }
 }
 
-fn level_of_prefix(prefix: Prefix) -> u8
-    ensures { result ≡ spec.level_of_prefix prefix }
-{
-    match prefix {
-        Prefix::Not => NOT,
-        Prefix::Minus | Prefix::Next => PREFIX,
-    }
-}
-
 /// The level of an operator before its operand, or 0.
 pub fn before(mark: Mark) -> u8
     ensures { result ≡ spec.before mark }
 {
     match prefix_of(mark) {
         None => 0,
-        Some(prefix) => level_of_prefix(prefix),
+        Some(Prefix::Not) => NOT,
+        Some(Prefix::Minus | Prefix::Next) => PREFIX,
     }
 }
 
