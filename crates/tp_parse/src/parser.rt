@@ -104,8 +104,7 @@ impl<'a> Parser<'a> {
         match self.tokens {
             [] => Ok(Text::new(alloc)),
             [token, ..] => match &token.kind {
-                Kind::Upper(text) => Ok(text.copy()?),
-                Kind::Lower(text) => Ok(text.copy()?),
+                Kind::Upper(text) | Kind::Lower(text) => text.copy(),
                 _ => Ok(Text::new(alloc)),
             },
         }
@@ -221,12 +220,13 @@ impl<'a> Parser<'a> {
     pub fn taken_name(&mut self, alloc: Global) -> Result<Text, Refusal>
         ensures { ReturnsReading (λ t. t) (readers.taken_name self.old) result self.new }
     {
-        let name = self.name(alloc)?;
+        let name = self.name(alloc).map_err(|_| Refusal::NoMemory)?;
         self.take();
         Ok(name)
     }
 
     /// Takes names with commas between them, at least one.
+    #[tactic(auto, unfolding(crate::specs::Readers::names))]
     pub fn names(&mut self, alloc: Global) -> Result<Texts, Refusal>
         ensures { ReturnsReading (λ t. t) (readers.names self.old) result self.new }
     {

@@ -3,7 +3,6 @@ ghost use Rattle.std.specs.Prelude.{◌≡◌};
 ghost use Rattle.tp_parse.specs.declared.refusal.Refusal.TheVariants.{NoMemory};
 
 use std::alloc::AllocFailed;
-use tp_value::NoMemory;
 
 /// Why tokens are no source. A token is named by its number, counted from 0: it is the first one after which no accepted source goes
 /// on, so those before it begin one.
@@ -31,14 +30,6 @@ impl<T: Drop> From<AllocFailed<T>> for Refusal {
     ghost from_gives = { λ _ e. e ≡ NoMemory };
 
     fn from(_: AllocFailed<T>) -> Refusal {
-        Refusal::NoMemory
-    }
-}
-
-impl From<NoMemory> for Refusal {
-    ghost from_gives = { λ _ e. e ≡ NoMemory };
-
-    fn from(_: NoMemory) -> Refusal {
         Refusal::NoMemory
     }
 }

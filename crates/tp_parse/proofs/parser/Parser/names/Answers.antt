@@ -1,16 +1,8 @@
 use Rattle.std.proofs.Common.{rules, arith}
 use Rattle.std.proofs.lemmas.Grind.{common_steps}
-use Rattle.tp_parse.specs.Readers.{names, names_from}
+use Rattle.tp_parse.specs.Readers.{names_from}
 use Rattle.tp_parse.proofs.Steps.{one_more, no_more}
 use Rattle.tp_parse.proofs.parser.Parser.names.Goals as goal
-
-pub returns-in_err-any_name : goal.returns-in_err-any_name
-unfolding names
-returns-in_err-any_name c = first_of (search rules, grind (arith, common_steps))
-
-pub loop-turn-init : goal.loop-turn-init
-unfolding names
-loop-turn-init c = first_of (search rules, grind (arith, common_steps))
 
 pub returns-then-not-sees : goal.returns-then-not-sees
 unfolding names_from
