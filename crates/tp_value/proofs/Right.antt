@@ -14,10 +14,10 @@ use Rattle.tp_value.specs.Tree.{Tree, num}
 use Rattle.tp_value.specs.Limits.{item_limit, value_depth_limit}
 use Rattle.tp_value.specs.Spelling.{is_value_blank, AreDigits, decimal_value, Spells, item}
 use Rattle.tp_value.specs.Reading.{ReadingState, Step, goes, ends, refuses, Answer, found, refused, answered, start_state, begins_value, digit_read, carried, moved, finished, step_behind, then_step, step, at_end, reading}
-use Rattle.tp_value.specs.Answers.{BeginsValue, occurrences, Begun, with_byte, begun_in, IsWithinSoFar, IsTooLarge, IsTooLong, IsTooDeep}
+use Rattle.tp_value.specs.Answers.{BeginsValue, occurrences, Begun, with_byte, begun_in, BeginsWithinLimits, IsWithinSoFar, IsTooLarge, IsTooLong, IsTooDeep}
 use Rattle.tp_value.proofs.Digits.{signed, in_digits, a_number}
 use Rattle.tp_value.proofs.Completes.{within}
-use Rattle.tp_value.proofs.Stands.{Room, Outer, none, inner, sign, Stands, at_start, part, signs, number, letters, spells_signed, Begins, begins, leaf_room, room_more}
+use Rattle.tp_value.proofs.Stands.{Room, Outer, none, inner, sign, Stands, at_start, part, signs, number, letters, spells_signed, begins, leaf_room, room_more}
 use Rattle.tp_value.proofs.Sound.{tally, Tallied, IsLarge, IsLong, IsDeep, Refuses, Ended, Told}
 use Rattle.tp_value.proofs.Told.{started_told}
 use Rattle.tp_value.proofs.ToldWithin.{within_told, digit_told, letter_told, all_digits}
@@ -105,8 +105,8 @@ range_is bytes from to text rest e place =
 range_inside : (bytes : List ℕ) (from to : ℕ) (text rest : List ℕ) → from ≤ length bytes → drop from bytes ≡ text ++ rest → to ≡ from + length text → to + length rest ≡ length bytes
 range_inside bytes from to text rest h e place = omega (arith, length-drop from bytes, ap length e, length-append text rest)
 
-so_far : (p : List ℕ) → Begins p → (begun_in p).count ≤ item_limit → IsWithinSoFar p
-so_far p b h = record { rest = b.rest; value = b.value; spelled = b.spelled; depth = b.depth; numbers = b.numbers; items = h }
+so_far : (p : List ℕ) → BeginsWithinLimits p → (begun_in p).count ≤ item_limit → IsWithinSoFar p
+so_far p b h = record { begins = b; items = h }
 
 -- the bytes up to a place spell the value
 pub record Ends (bytes : List ℕ) (from : ℕ) (t : Tree) (after : ℕ) : Type 0 where
@@ -174,7 +174,7 @@ module _ (bytes : List ℕ) (from n : ℕ) (p : List ℕ) (s : ReadingState) (b 
   few : (begun_in p).count ≤ item_limit
   few = subst (λ (c : Begun). c.count ≤ item_limit) (sym counts.begun) counts.small
 
-  until : Begins p → IsWithinSoFar (slice_range bytes from n)
+  until : BeginsWithinLimits p → IsWithinSoFar (slice_range bytes from n)
   until x = subst IsWithinSoFar (sym before) (so_far p x few)
 
   counted_behind : begun_in (slice_range bytes from (n + 1)) ≡ with_byte (tally s) b
@@ -225,7 +225,7 @@ module _ (bytes : List ℕ) (from n : ℕ) (p : List ℕ) (s : ReadingState) (b 
       let items = subst (λ (c : Begun). c.count ≤ item_limit) (sym counted_behind) x.count in
       at_next (IsTooDeep bytes from) at x.place (record { ordered = past_from; inside = inside; so_far = until x.so_far; goes_on = on_behind x.goes_on; bracket = bracket; open_lists = open_lists; items = items })
 
-  nothing_right : (at : ℕ) → (at ≡ from + length p) × Begins p → ((rest : List ℕ) → reading from start_state ((p ++ b ∷ []) ++ rest) ≡ refused (NoValue at)) → Stops bytes from at
+  nothing_right : (at : ℕ) → (at ≡ from + length p) × BeginsWithinLimits p → ((rest : List ℕ) → reading from start_state ((p ++ b ∷ []) ++ rest) ≡ refused (NoValue at)) → Stops bytes from at
   nothing_right at x always =
       let here : n ≡ at = at_n ∙ sym x.0 in
       let same : (rest : List ℕ) → reading from start_state ((p ++ b ∷ []) ++ rest) ≡ refused (NoValue n) = λ rest. always rest ∙ ap (λ k. refused (NoValue k)) (sym here) in

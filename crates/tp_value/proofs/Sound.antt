@@ -13,8 +13,8 @@ use Rattle.tp_value.specs.Tree.{Tree, num}
 use Rattle.tp_value.specs.Limits.{item_limit, value_depth_limit}
 use Rattle.tp_value.specs.Spelling.{is_value_blank, spelling, Spells}
 use Rattle.tp_value.specs.Reading.{ReadingState, Step, goes, ends, refuses, begins_value}
-use Rattle.tp_value.specs.Answers.{BeginsValue, Begun, with_byte, begun_in}
-use Rattle.tp_value.proofs.Stands.{Stands, Begins}
+use Rattle.tp_value.specs.Answers.{BeginsValue, Begun, with_byte, begun_in, BeginsWithinLimits}
+use Rattle.tp_value.proofs.Stands.{Stands}
 
 -- an item is due
 abbrev pub due_of : Phase → Bool
@@ -42,7 +42,7 @@ pub record IsLarge (from : ℕ) (p : List ℕ) (s : ReadingState) (b at : ℕ) :
   pub number : ℤ
   pub split : p ++ b ∷ [] ≡ front ++ text
   pub place : at ≡ from + length front
-  pub so_far : Begins front
+  pub so_far : BeginsWithinLimits front
   pub starts : 0 < length front → (begun_in front).due ≡ true
   pub spelled : Spells text (num number)
   pub large : ¬ IsNumber number
@@ -51,13 +51,13 @@ pub record IsLarge (from : ℕ) (p : List ℕ) (s : ReadingState) (b at : ℕ) :
 
 pub record IsLong (from : ℕ) (p : List ℕ) (s : ReadingState) (b at : ℕ) : Type 0 where
   pub place : at ≡ from + length p
-  pub so_far : Begins p
+  pub so_far : BeginsWithinLimits p
   pub goes_on : BeginsValue (p ++ b ∷ [])
   pub count : (with_byte (tally s) b).count ≡ item_limit + 1
 
 pub record IsDeep (from : ℕ) (p : List ℕ) (s : ReadingState) (b at : ℕ) : Type 0 where
   pub place : at ≡ from + length p
-  pub so_far : Begins p
+  pub so_far : BeginsWithinLimits p
   pub goes_on : BeginsValue (p ++ b ∷ [])
   pub bracket : b ≡ 60
   pub depth : length s.lists ≡ value_depth_limit
@@ -65,7 +65,7 @@ pub record IsDeep (from : ℕ) (p : List ℕ) (s : ReadingState) (b at : ℕ) : 
 
 -- why a byte is refused
 abbrev pub Refuses : ℕ → List ℕ → ReadingState → ℕ → ReadValue → Type 0
-Refuses from p s b (NoValue at) = (at ≡ from + length p) × Begins p
+Refuses from p s b (NoValue at) = (at ≡ from + length p) × BeginsWithinLimits p
 Refuses from p s b (TooLarge at) = IsLarge from p s b at
 Refuses from p s b (TooLong at) = IsLong from p s b at
 Refuses from p s b (TooDeep at) = IsDeep from p s b at

@@ -10,6 +10,7 @@ use Rattle.tp_value.specs.Tree.{Tree, num, truth, list, of_items}
 use Rattle.tp_value.specs.Limits.{value_depth_limit, depth_of, HasNumbers}
 use Rattle.tp_value.specs.Spelling.{AreDigits, decimal_value, spelling, TakesItem, Spells, digits, minus, word, closed, Unfinished, item}
 use Rattle.tp_value.specs.Reading.{ReadingState, start_state}
+use Rattle.tp_value.specs.Answers.{BeginsWithinLimits}
 use Rattle.tp_value.proofs.Digits.{signed, in_digits, a_number}
 use Rattle.tp_value.proofs.Completes.{within, depth_more, numbers_more}
 
@@ -62,15 +63,7 @@ complete {s = s} {t = t} (inner q lists s0 ts last o u k r) h =
     let shape : (q ++ ((s0 ++ s) ++ codes ">")) ++ c.rest ≡ ((q ++ s0) ++ s) ++ (codes ">" ++ c.rest) = simp append_assoc in
     record { rest = codes ">" ++ c.rest; value = c.value; spelled = subst (λ (z : List ℕ). Spells z c.value) shape c.spelled; room = λ w. c.room (room_more lists ts t r w) }
 
--- the bytes begin the text of a value within the limits on numbers and depth
-pub record Begins (p : List ℕ) : Type 0 where
-  pub rest : List ℕ
-  pub value : Tree
-  pub spelled : Spells (p ++ rest) value
-  pub depth : depth_of value ≤ value_depth_limit
-  pub numbers : HasNumbers value
-
-begins_by : (p q s r : List ℕ) (lists : List (List Tree)) (t : Tree) → p ++ r ≡ q ++ s → Room lists t → Completed q s lists t → Begins p
+begins_by : (p q s r : List ℕ) (lists : List (List Tree)) (t : Tree) → p ++ r ≡ q ++ s → Room lists t → Completed q s lists t → BeginsWithinLimits p
 begins_by p q s r lists t e room c =
     let w = c.room room in
     let shape : (q ++ s) ++ c.rest ≡ p ++ (r ++ c.rest) = ap (λ z. z ++ c.rest) (sym e) ∙ append_assoc p r c.rest in
@@ -79,7 +72,7 @@ begins_by p q s r lists t e room c =
 zero_text : Spells (codes "0") (num (pos 0))
 zero_text = digits (codes "0") (refl, tt)
 
-pub begins_outer : {q : List ℕ} {lists : List (List Tree)} → Outer q lists → Begins q
+pub begins_outer : {q : List ℕ} {lists : List (List Tree)} → Outer q lists → BeginsWithinLimits q
 begins_outer {q = q} {lists = lists} o =
     let room : Room lists (num (pos 0)) = record { depth = omega (arith, outer_depth o); numbers = refl } in
     begins_by q q (codes "0") (codes "0") lists (num (pos 0)) refl room (complete o zero_text)
@@ -110,7 +103,7 @@ word_split : (b : Bool) (k : ℕ) → take k (spelling b) ++ drop k (spelling b)
 word_split b k = take-append-drop k (spelling b)
 
 -- where bytes lead to a state, they begin a value
-pub begins : {from : ℕ} {p : List ℕ} {s : ReadingState} → Stands from p s → Begins p
+pub begins : {from : ℕ} {p : List ℕ} {s : ReadingState} → Stands from p s → BeginsWithinLimits p
 begins at_start = record { rest = codes "0"; value = num (pos 0); spelled = zero_text; depth = omega arith; numbers = refl }
 begins (part q s lists begun ts last o u r) =
     let c = list_closes s lists ts last u r (record { depth = omega (arith, r.depth); numbers = refl }) in

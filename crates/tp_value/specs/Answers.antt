@@ -39,14 +39,18 @@ with_byte s b =
 abbrev pub begun_in : List ℕ → Begun
 begun_in p = fold with_byte (record { count = 0; due = false }) p
 
--- no limit is passed so far: the bytes begin the text of a value whose numbers and depth are within
--- the limits, and have not too many items
-pub record IsWithinSoFar (p : List ℕ) : Type 0 where
+-- the bytes begin the text of a value within the limits on numbers and depth
+pub record BeginsWithinLimits (p : List ℕ) : Type 0 where
   pub rest : List ℕ
   pub value : Tree
   pub spelled : Spells (p ++ rest) value
   pub depth : depth_of value ≤ value_depth_limit
   pub numbers : HasNumbers value
+
+-- no limit is passed so far: the bytes begin the text of a value within the limits on numbers and
+-- depth, and have not too many items
+pub record IsWithinSoFar (p : List ℕ) : Type 0 where
+  pub begins : BeginsWithinLimits p
   pub items : (begun_in p).count ≤ item_limit
 
 -- no bytes spell a value, and the byte at the place, or the end, is the first at which no value's

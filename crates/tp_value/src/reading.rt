@@ -3,7 +3,6 @@ ghost use Rattle.std.specs.Prelude.{◌≡◌};
 ghost use Rattle.tp_value.specs.declared.reading.ReadValue.TheVariants.{NoMemory as refused_memory};
 
 use crate::NoMemory;
-use std::alloc::AllocFailed;
 
 /// Why no value is read, the first cause in the order of the bytes, or want of memory. `at` counts bytes from 0.
 #[derive(Clone, Copy, Debug, PartialEq, Eq)]
@@ -23,14 +22,6 @@ impl From<NoMemory> for ReadValue {
     ghost from_gives = { λ _ e. e ≡ refused_memory };
 
     fn from(_: NoMemory) -> ReadValue {
-        ReadValue::NoMemory
-    }
-}
-
-impl<T: Drop> From<AllocFailed<T>> for ReadValue {
-    ghost from_gives = { λ _ e. e ≡ refused_memory };
-
-    fn from(_: AllocFailed<T>) -> ReadValue {
         ReadValue::NoMemory
     }
 }
