@@ -1,5 +1,6 @@
-use Rattle.tp_tree.proofs.SpellingExampleLemmas.{spelling_examples}
+use Rattle.std.specs.Fmt.{digits}
 use Rattle.tp_tree.proofs.laws.spelling_examples.Goals as goal
 
 pub returns : goal.returns
-returns c = spelling_examples
+unfolding digits
+returns c = search
