@@ -2,7 +2,6 @@
 ghost use Rattle.std.specs.Prelude.{◌≡◌};
 ghost use Rattle.tp_lex.specs.declared.refusal.LexRefusal.TheVariants.{NoMemory as refused_memory};
 
-use std::alloc::AllocFailed;
 use tp_value::NoMemory;
 
 /// The first fault of a text in the order of its bytes, or want of memory. `at` counts bytes from 0.
@@ -19,18 +18,10 @@ pub enum LexRefusal {
     NoMemory,
 }
 
-impl From<NoMemory> for LexRefusal {
+impl<E: Drop + Into<NoMemory>> From<E> for LexRefusal {
     ghost from_gives = { λ _ e. e ≡ refused_memory };
 
-    fn from(_: NoMemory) -> LexRefusal {
-        LexRefusal::NoMemory
-    }
-}
-
-impl<T: Drop> From<AllocFailed<T>> for LexRefusal {
-    ghost from_gives = { λ _ e. e ≡ refused_memory };
-
-    fn from(_: AllocFailed<T>) -> LexRefusal {
+    fn from(_: E) -> LexRefusal {
         LexRefusal::NoMemory
     }
 }

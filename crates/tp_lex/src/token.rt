@@ -1,4 +1,7 @@
 // What a source text is made of.
+ghost use Rattle.std.specs.Prelude.{List};
+ghost use Rattle.tp_lex.specs.declared.token.Token.{Token};
+
 use std::marker::Model;
 use tp_value::{Number, Text};
 
@@ -105,9 +108,6 @@ pub struct Tokens {
 }
 
 impl Model for Tokens {
-    ghost use Rattle.std.specs.Prelude.{List};
-    ghost use Rattle.tp_lex.specs.declared.token.Token.{Token};
-
     ghost Value = { List Token };
 
     ghost view = { λ a. a.items.items };
