@@ -1,5 +1,5 @@
 -- A phrase whose reading came to the end of the tokens, or found no room at the last one, can be finished.
-use Rattle.std.proofs.Common.{◌≡◌, ◌≢◌, ℕ, zero, suc, ◌-◌, ◌<◌, true, inl, inr, Some, None, [], ◌∷◌, ◌++◌, length, drop, Ok, Err, refl, sym, ap, subst, ◌∙◌, arith}
+use Rattle.std.proofs.Common.{◌≡◌, ◌≤◌, ◌≢◌, ℕ, zero, suc, ◌-◌, ◌<◌, true, inl, inr, Some, None, [], ◌∷◌, ◌++◌, length, drop, Ok, Err, refl, sym, ap, subst, ◌∙◌, arith}
 use Rattle.tp_lex.specs.declared.token.Word.TheVariants as word
 use Rattle.tp_lex.specs.declared.token.Symbol.TheVariants as symbol
 use Rattle.tp_tree.specs.declared.operator.Op.{Op}
@@ -30,7 +30,7 @@ use Rattle.tp_parse.proofs.Shapes.{tall}
 use Rattle.tp_parse.proofs.Heads.{chosen, head_sound, chosen_at}
 use Rattle.tp_parse.proofs.Sound.{Is, others_sound, levels_sound, turn_sound, turn_fewer, read_sound}
 use Rattle.tp_parse.proofs.Within.{some_by_prefix}
-use Rattle.tp_parse.proofs.Extended.{something, role_stopped, joined_not, mark_on, some_mark, some_due, some_role, role_more, due_on, phrase_on, past_phrase, drop_phrase, from_on, some_phrase, head_on, middle_real}
+use Rattle.tp_parse.proofs.Extended.{Stops, something, role_stopped, joined_not, mark_on, some_mark, some_due, some_role, role_more, due_on, phrase_on, past_phrase, drop_phrase, from_on, some_phrase, head_on, middle_real}
 use Rattle.tp_parse.proofs.Fresh.{name_token, name_found, a_name, mark_is, Closing, due_close, past_close, stops_close, by_symbol, by_word, enclosure_close, middle_close, list_token, list_due, no_items, list_end, list_end_stops, last_items, HeadRoom, after_head, alone}
 use Rattle.tp_parse.proofs.Finishes.{Ended, bind_err, expect_err, deep_last, deepen_err, deepen_room, fits_err, fits_room, admit_err, admit_room, head_finish, some_start}
 use Rattle.tp_parse.proofs.Endings.{Ending, PartEnding, OthersEnding, ListEnding, PhraseEnding, GoesEnding, others_join, closed, joins_mark, after_last, infix_last, index_last, roomed, unfit_finish, part_ok, turn_steps}
@@ -137,6 +137,13 @@ module _ (inner : ℕ → Reader Found) (room : ℕ) (sound : (k : ℕ) (ts : To
         ]
       ]
 
+  -- an operand which ends so, behind the mark that is due before it
+  second_finish : (us ts : Tokens) (e : Refusal) → ts ≡ past us → 0 < length us → inner chop_level ts ≡ Err e → Ended e
+      → (next : Tokens → Tokens) × ((ys : Tokens) → Stops ys → (x : Found) × Parses chop_level (past (us ++ next ys)) x ys × (e ≡ Unfinished → 0 < room → x.height ≤ room))
+  second_finish us ts e left some is end =
+      let f = finish chop_level ts e is end in
+      (f.next, λ ys stops. let made = f.finished ys stops in (made.0, past_phrase us (f.next ys) some (subst (λ q. Parses chop_level (q ++ f.next ys) made.0 ys) left made.1), made.2))
+
   choice_finish : (ts mid : Tokens) (e : Refusal) → BeginsPrimary ts h.If mid → 0 < room → r.choice inner room (from ts) mid ≡ Err e → Ended e → PhraseEnding room 0 ts e
   unfolding r.choice r.else_part
   choice_finish ts mid e b low is end =
@@ -157,17 +164,8 @@ module _ (inner : ℕ → Reader Found) (room : ℕ) (sound : (k : ℕ) (ts : To
             let left : w.0.1 ≡ past one.0.1 = ap (λ (q : Found × Tokens). q.1) one.3 in
             elim (bind_err (inner chop_level w.0.1) _ e w.2) [
               | inl v ↦
-                  let f = finish chop_level w.0.1 e v end in (
-                    f.next,
-                    λ ys stops.
-                        let made = f.finished ys stops in
-                        let ws = f.next ys in
-                        let second = past_phrase one.0.1 ws some (subst (λ q. Parses chop_level (q ++ ws) made.0 ys) left made.1) in (
-                          of_choice (from (ts ++ ws)) one.0.0 made.0,
-                          g.if_then (head_on ws b (λ z q. absurd cc)) (phrase_on ws one.1.0 (something some)) (due_on one.0.1 ws _ one.2 (λ q. cc)) second stops.1,
-                          λ u. omega (arith, one.1.1, made.2 u low),
-                        ),
-                  )
+                  let f = second_finish one.0.1 w.0.1 e left some v end in
+                  (f.0, λ ys stops. let made = f.1 ys stops in (of_choice (from (ts ++ f.0 ys)) one.0.0 made.0, g.if_then (head_on (f.0 ys) b (λ z q. absurd cc)) (phrase_on (f.0 ys) one.1.0 (something some)) (due_on one.0.1 (f.0 ys) _ one.2 (λ q. cc)) made.1 stops.1, λ u. omega (arith, one.1.1, made.2 u low)))
               | inr v ↦
                   let got = sound chop_level w.0.1 v.0 v.1 in
                   elim (chosen (sees (m.Word word.Else) v.0.1) _ _ _ v.2) [
@@ -214,17 +212,8 @@ module _ (inner : ℕ → Reader Found) (room : ℕ) (sound : (k : ℕ) (ts : To
             let left : w.0.1 ≡ past one.0.1 = ap (λ (z : Found × Tokens). z.1) one.3 in
             elim (bind_err (inner chop_level w.0.1) _ e w.2) [
               | inl v ↦
-                  let f = finish chop_level w.0.1 e v end in (
-                    f.next,
-                    λ ys stops.
-                        let made = f.finished ys stops in
-                        let ws = f.next ys in
-                        let second = past_phrase one.0.1 ws some (subst (λ us. Parses chop_level (us ++ ws) made.0 ys) left made.1) in (
-                          of_pair (from (ts ++ ws)) q one.0.0 made.0,
-                          g.paired (head_on ws b (λ z y. absurd cc)) (phrase_on ws one.1.0 (something some)) (due_on one.0.1 ws _ one.2 (middle_real q)) second,
-                          λ u. omega (arith, one.1.1, made.2 u low),
-                        ),
-                  )
+                  let f = second_finish one.0.1 w.0.1 e left some v end in
+                  (f.0, λ ys stops. let made = f.1 ys stops in (of_pair (from (ts ++ f.0 ys)) q one.0.0 made.0, g.paired (head_on (f.0 ys) b (λ z y. absurd cc)) (phrase_on (f.0 ys) one.1.0 (something some)) (due_on one.0.1 (f.0 ys) _ one.2 (middle_real q)) made.1, λ u. omega (arith, one.1.1, made.2 u low)))
               | inr v ↦ absurd cc
             ]
       ]
