@@ -13,10 +13,6 @@ use Rattle.tp_parse.specs.declared.head.Listed.{Listed}
 use Rattle.tp_parse.specs.declared.head.Listed.TheVariants as listed
 use Rattle.tp_parse.specs.declared.head.Pair.{Pair}
 use Rattle.tp_parse.specs.declared.head.Pair.TheVariants as pair
-use Rattle.tp_parse.specs.declared.phrases.OneOperand.{OneOperand}
-use Rattle.tp_parse.specs.declared.phrases.OneOperand.TheVariants as one
-use Rattle.tp_parse.specs.declared.phrases.TwoOperands.{TwoOperands}
-use Rattle.tp_parse.specs.declared.phrases.TwoOperands.TheVariants as two
 
 -- a phrase, and its height with its parentheses
 pub record Found : Type 0 where
@@ -69,23 +65,13 @@ enclosed_tree at enclosure.Size a = phrase at (t.size a)
 abbrev pub of_enclosed : ℕ → Enclosure → Found → Found
 of_enclosed at e a = found (enclosed_tree at e a.tree) (a.height + 1)
 
+abbrev pub of_choice : ℕ → Found → Found → Found
+of_choice at b p = found (phrase at (t.choice b.tree p.tree)) (max b.height p.height + 1)
+
 abbrev pub of_choice_else : ℕ → Found → Found → Found → Found
 of_choice_else at b p q =
     found (phrase at (t.choice_else b.tree p.tree q.tree))
     (max (max b.height p.height) q.height + 1)
-
-abbrev pub prefixed_kind : Prefix → PhraseTree → KindTree
-prefixed_kind prefix.Not a = t.negation a
-prefixed_kind prefix.Minus a = t.minus a
-prefixed_kind prefix.Next a = t.next a
-
-abbrev pub one_kind : OneOperand → PhraseTree → KindTree
-one_kind one.Size a = t.size a
-one_kind (one.Exists xs) a = t.exists xs a
-one_kind (one.Prefix o) a = prefixed_kind o a
-
-abbrev pub of_one : ℕ → OneOperand → Found → Found
-of_one at o a = found (phrase at (one_kind o a.tree)) (a.height + 1)
 
 abbrev pub pair_kind : Pair → PhraseTree → PhraseTree → KindTree
 pair_kind pair.While a b = t.while a b
@@ -93,32 +79,25 @@ pair_kind pair.Repeat a b = t.repeat a b
 pair_kind (pair.For x) a b = t.for x a b
 pair_kind (pair.Forall x) a b = t.forall x a b
 
-abbrev pub two_kind : TwoOperands → PhraseTree → PhraseTree → KindTree
-two_kind two.Choice b p = t.choice b p
-two_kind (two.Pair p) a b = pair_kind p a b
-two_kind (two.Infix o) a b = t.binary o a b
-two_kind two.Index a i = t.index a i
-
-abbrev pub of_two : ℕ → TwoOperands → Found → Found → Found
-of_two at o a b = found (phrase at (two_kind o a.tree b.tree)) (max a.height b.height + 1)
-
 abbrev pub of_pair : ℕ → Pair → Found → Found → Found
-of_pair at p a b = of_two at (two.Pair p) a b
-
-abbrev pub of_choice : ℕ → Found → Found → Found
-of_choice at b p = of_two at two.Choice b p
+of_pair at p a b = found (phrase at (pair_kind p a.tree b.tree)) (max a.height b.height + 1)
 
 abbrev pub of_exists : ℕ → List (List ℕ) → Found → Found
-of_exists at xs a = of_one at (one.Exists xs) a
+of_exists at xs a = found (phrase at (t.exists xs a.tree)) (a.height + 1)
+
+abbrev pub prefixed_kind : Prefix → PhraseTree → KindTree
+prefixed_kind prefix.Not a = t.negation a
+prefixed_kind prefix.Minus a = t.minus a
+prefixed_kind prefix.Next a = t.next a
 
 abbrev pub of_prefix : ℕ → Prefix → Found → Found
-of_prefix at o a = of_one at (one.Prefix o) a
+of_prefix at o a = found (phrase at (prefixed_kind o a.tree)) (a.height + 1)
 
 abbrev pub of_infix : ℕ → Op → Found → Found → Found
-of_infix at o a b = of_two at (two.Infix o) a b
+of_infix at o a b = found (phrase at (t.binary o a.tree b.tree)) (max a.height b.height + 1)
 
 abbrev pub of_index : ℕ → Found → Found → Found
-of_index at a i = of_two at two.Index a i
+of_index at a i = found (phrase at (t.index a.tree i.tree)) (max a.height i.height + 1)
 
 abbrev pub of_chain : ℕ → Operands → Found
 of_chain at all = found (phrase at (t.conjunction (phrases_of all.trees))) (all.height + 1)

@@ -2,6 +2,7 @@
 ghost use Rattle.std.specs.Prelude.{◌≡◌, ◌+◌, ◌<◌, max, IfOk, IfErr, map};
 ghost use Rattle.tp_parse.specs.Found as spec;
 ghost use Rattle.tp_parse.specs.Found.{found};
+ghost use Rattle.tp_parse.specs.Seen as views;
 ghost use Rattle.tp_parse.specs.Seen.{seen, all_seen, IsLow};
 ghost use Rattle.tp_parse.specs.declared.refusal.Refusal.TheVariants.{NoMemory};
 ghost use Rattle.tp_tree.specs.Read.{phrase_tree, kind_tree};
@@ -143,7 +144,7 @@ fn prefixed_kind(prefix: Prefix, operand: Box<Phrase>) -> PhraseKind
 }
 
 fn one_kind(kind: OneOperand, operand: Box<Phrase>) -> PhraseKind
-    ensures { kind_tree result ≡ spec.one_kind kind (phrase_tree operand.value) }
+    ensures { kind_tree result ≡ views.one_kind kind (phrase_tree operand.value) }
 {
     match kind {
         OneOperand::Size => PhraseKind::Size(operand),
@@ -159,7 +160,7 @@ pub fn of_one(
     operand: Measured,
 ) -> Result<Measured, Refusal>
     requires { IsLow operand.height }
-    ensures made { IfOk result (λ r. seen r ≡ spec.of_one at kind (seen operand)) }
+    ensures made { IfOk result (λ r. seen r ≡ views.of_one at kind (seen operand)) }
     ensures memory { IfErr result (λ refusal. refusal ≡ NoMemory) }
 {
     let height = operand.height + 1;
@@ -181,7 +182,7 @@ fn pair_kind(pair: Pair, first: Box<Phrase>, second: Box<Phrase>) -> PhraseKind
 
 fn two_kind(kind: TwoOperands, first: Box<Phrase>, second: Box<Phrase>) -> PhraseKind
     ensures { kind_tree result
-        ≡ spec.two_kind kind (phrase_tree first.value) (phrase_tree second.value) }
+        ≡ views.two_kind kind (phrase_tree first.value) (phrase_tree second.value) }
 {
     match kind {
         TwoOperands::Choice => PhraseKind::If(first, second, None),
@@ -199,7 +200,7 @@ pub fn of_two(
     second: Measured,
 ) -> Result<Measured, Refusal>
     requires { IsLow first.height × IsLow second.height }
-    ensures made { IfOk result (λ r. seen r ≡ spec.of_two at kind (seen first) (seen second)) }
+    ensures made { IfOk result (λ r. seen r ≡ views.of_two at kind (seen first) (seen second)) }
     ensures memory { IfErr result (λ refusal. refusal ≡ NoMemory) }
 {
     let both = box_both(alloc, first, second)?;
