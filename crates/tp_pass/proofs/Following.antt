@@ -14,41 +14,53 @@ use Rattle.tp_pass.specs.Sweeps.{BeginsSweep, TakesTurn}
 use Rattle.tp_step.specs.Closes.{EndsWithItem, LooksAt, Looks, Counts, ending_of, is_pick}
 use Rattle.tp_pass.specs.Follows.{Turns, no_turn_yet, one_pick, no_pick, PassSoFar, WholePasses, no_pass_yet, whole_pass, EndsAtTurn, PassTurns, EndsLastPass, FollowsOrder}
 
--- The turns of a pass so far, from those that its sweep begins with, whose picks were appended to those before.
-pub record TurnsSoFar (w : Setting) (m here : Moment) (first left : Sweep) (l0 l1 : ℕ) (b0 b1 : List ℕ) : Type 0 where
+-- Picks that were made so, appended to those before, of which each took one of the reductions that were left.
+pub record PicksSoFar (AreMade : List ℕ → Type 0) (l0 l1 : ℕ) (b0 b1 : List ℕ) : Type 0 where
   pub picks : List ℕ
-  pub turns : Turns w m first picks here left
+  pub made : AreMade picks
   pub appended : b1 ≡ b0 ++ picks
   pub spent : l0 ≡ l1 + length picks
 
+no_pick_yet : (AreMade : List ℕ → Type 0) (left : ℕ) (before : List ℕ) → AreMade [] → PicksSoFar AreMade left left before before
+no_pick_yet AreMade left before made = record { picks = []; made = made; appended = sym (append-nil before); spent = omega arith }
+
+more_picks : (AreMade AreMadeNow : List ℕ → Type 0) (l0 l1 l2 : ℕ) (b0 b1 b2 us : List ℕ) (h : PicksSoFar AreMade l0 l1 b0 b1)
+    → AreMadeNow (h.picks ++ us) → b2 ≡ b1 ++ us → l1 ≡ l2 + length us → PicksSoFar AreMadeNow l0 l2 b0 b2
+more_picks AreMade AreMadeNow l0 l1 l2 b0 b1 b2 us h made more less = record {
+  picks = h.picks ++ us;
+  made = made;
+  appended = more ∙ ap (λ xs. xs ++ us) h.appended ∙ append_assoc b0 h.picks us;
+  spent = omega (arith, h.spent, less, length-append h.picks us);
+}
+
+same_picks : (AreMade AreMadeNow : List ℕ → Type 0) (l0 l1 l2 : ℕ) (b0 b1 b2 : List ℕ) (h : PicksSoFar AreMade l0 l1 b0 b1)
+    → AreMadeNow h.picks → b2 ≡ b1 → l2 ≡ l1 → PicksSoFar AreMadeNow l0 l2 b0 b2
+same_picks AreMade AreMadeNow l0 l1 l2 b0 b1 b2 h made still same =
+    record { picks = h.picks; made = made; appended = still ∙ h.appended; spent = omega (arith, h.spent, same) }
+
+-- the turns of a pass so far, from those that its sweep begins with
+abbrev pub TurnsSoFar : Setting → (m here : Moment) → (first left : Sweep) → (l0 l1 : ℕ) → (b0 b1 : List ℕ) → Type 0
+TurnsSoFar w m here first left = PicksSoFar (λ picks. Turns w m first picks here left)
+
 pub turns_begin : (w : Setting) (m : Moment) (sweep : Sweep) (left : ℕ) (before : List ℕ) → TurnsSoFar w m m sweep sweep left left before before
-turns_begin w m sweep left before = record { picks = []; turns = no_turn_yet; appended = sym (append-nil before); spent = omega arith }
+turns_begin w m sweep left before = no_pick_yet (λ picks. Turns w m sweep picks m sweep) left before no_turn_yet
 
 -- one turn more
 pub turns_go_on : (w : Setting) (m here next : Moment) (first sweep gone : Sweep) (l0 l1 l2 : ℕ) (b0 b1 b2 : List ℕ) (item : ℕ)
     → TurnsSoFar w m here first sweep l0 l1 b0 b1 → TakesTurn here.scene.next_item sweep gone (Some item) → Looks w item here next l1 l2 b1 b2 None
     → TurnsSoFar w m next first gone l0 l2 b0 b2
-turns_go_on w m here next first sweep gone l0 l1 l2 b0 b1 b2 item h turn (inl x) = record {
-  picks = h.picks ++ item ∷ [];
-  turns = one_pick h.turns turn x.1;
-  appended = x.3 ∙ ap (λ xs. xs ++ item ∷ []) h.appended ∙ append_assoc b0 h.picks (item ∷ []);
-  spent = omega (arith, h.spent, x.2, length-append h.picks (item ∷ []));
-}
+turns_go_on w m here next first sweep gone l0 l1 l2 b0 b1 b2 item h turn (inl x) =
+    more_picks (λ picks. Turns w m first picks here sweep) (λ picks. Turns w m first picks next gone) l0 l1 l2 b0 b1 b2 (item ∷ []) h (one_pick h.made turn x.1) x.3 (omega (arith, x.2))
 turns_go_on w m here next first sweep gone l0 l1 l2 b0 b1 b2 item h turn (inr x) =
-    let still : TurnsSoFar w m here first gone l0 l2 b0 b2 = record {
-      picks = h.picks;
-      turns = no_pick item h.turns turn x.0;
-      appended = x.3 ∙ h.appended;
-      spent = omega (arith, h.spent, x.2);
-    } in
-    subst (λ (z : Moment). TurnsSoFar w m z first gone l0 l2 b0 b2) (sym x.1) still
+    subst (λ (z : Moment). TurnsSoFar w m z first gone l0 l2 b0 b2) (sym x.1)
+    (same_picks (λ picks. Turns w m first picks here sweep) (λ picks. Turns w m first picks here gone) l0 l1 l2 b0 b1 b2 h (no_pick item h.made turn x.0) x.3 x.2)
 
 -- they are those of a pass that begins in this order
 pub pass_of : (w : Setting) (m here : Moment) (order after now : Order) (first left : Sweep) (l0 l1 : ℕ) (b0 b1 : List ℕ)
     → BeginsSweep m.scene.root.entries order after first → now ≡ after → TurnsSoFar w m here first left l0 l1 b0 b1 → PassSoFar w m here order now l0 l1 b0 b1 left
 pass_of w m here order after now first left l0 l1 b0 b1 begins same h = record {
   picks = h.picks;
-  pass = record { sweep = first; begins = subst (λ o. BeginsSweep m.scene.root.entries order o first) (sym same) begins; turns = h.turns };
+  pass = record { sweep = first; begins = subst (λ o. BeginsSweep m.scene.root.entries order o first) (sym same) begins; turns = h.made };
   appended = h.appended;
   spent = h.spent;
 }
@@ -73,36 +85,23 @@ pub turns_end : (w : Setting) (m here next : Moment) (first sweep gone : Sweep) 
     → TurnsSoFar w m here first sweep l0 l1 b0 b1 → TakesTurn here.scene.next_item sweep gone (Some item) → Looks w item here next l1 l2 b1 b2 (Some ending)
     → MayEndWith w l2 here item (Some ending) → TurnsSoFar w m next first sweep l0 l2 b0 b2 × EndsAtTurn w l2 next sweep ending
 turns_end w m here next first sweep gone l0 l1 l2 b0 b1 b2 item ending h turn x ends =
-    let still : TurnsSoFar w m here first sweep l0 l2 b0 b2 = record {
-      picks = h.picks;
-      turns = h.turns;
-      appended = x.3 ∙ h.appended;
-      spent = omega (arith, h.spent, x.2);
-    } in
+    let still = same_picks (λ picks. Turns w m first picks here sweep) (λ picks. Turns w m first picks here sweep) l0 l1 l2 b0 b1 b2 h h.made x.3 x.2 in
     let at : EndsAtTurn w l2 here sweep ending = (item, (gone, turn), ends.0, ends.1) in
     (subst (λ (z : Moment). TurnsSoFar w m z first sweep l0 l2 b0 b2) (sym x.1) still, subst (λ (z : Moment). EndsAtTurn w l2 z sweep ending) (sym x.1) at)
 
--- The passes of a closure so far, whose picks were appended to those before.
-pub record PassesSoFar (w : Setting) (m here : Moment) (order between : Order) (l0 l1 : ℕ) (b0 b1 : List ℕ) : Type 0 where
-  pub picks : List ℕ
-  pub passes : WholePasses w m order picks here between
-  pub appended : b1 ≡ b0 ++ picks
-  pub spent : l0 ≡ l1 + length picks
+-- the passes of a closure so far
+abbrev pub PassesSoFar : Setting → (m here : Moment) → (order between : Order) → (l0 l1 : ℕ) → (b0 b1 : List ℕ) → Type 0
+PassesSoFar w m here order between = PicksSoFar (λ picks. WholePasses w m order picks here between)
 
 pub passes_begin : (w : Setting) (m : Moment) (order : Order) (left : ℕ) (before : List ℕ) → PassesSoFar w m m order order left left before before
-passes_begin w m order left before = record { picks = []; passes = no_pass_yet; appended = sym (append-nil before); spent = omega arith }
+passes_begin w m order left before = no_pick_yet (λ picks. WholePasses w m order picks m order) left before no_pass_yet
 
 pub passes_go_on : (w : Setting) (m here next : Moment) (order between after : Order) (l0 l1 l2 : ℕ) (b0 b1 b2 : List ℕ) → PassesSoFar w m here order between l0 l1 b0 b1
     → PassTurns w here next between after l1 l2 b1 b2 None → (l2 ≡ l1 → ⊥) → PassesSoFar w m next order after l0 l2 b0 b2
 passes_go_on w m here next order between after l0 l1 l2 b0 b1 b2 h g some =
     let p = g.1 in
     let picked : 0 < length p.picks = elim (cases_lt 0 (length p.picks)) [ inl u ↦ u | inr u ↦ absurd (some (omega (arith, u, p.spent))) ] in
-    record {
-      picks = h.picks ++ p.picks;
-      passes = whole_pass h.passes p.pass g.2 picked;
-      appended = p.appended ∙ ap (λ xs. xs ++ p.picks) h.appended ∙ append_assoc b0 h.picks p.picks;
-      spent = omega (arith, h.spent, p.spent, length-append h.picks p.picks);
-    }
+    more_picks (λ picks. WholePasses w m order picks here between) (λ picks. WholePasses w m order picks next after) l0 l1 l2 b0 b1 b2 p.picks h (whole_pass h.made p.pass g.2 picked) p.appended p.spent
 
 no_picks : (xs : List ℕ) → length xs ≡ 0 → xs ≡ []
 no_picks [] e = refl
@@ -112,20 +111,23 @@ no_picks (x ∷ xs) e = absurd (omega (arith, e))
 last_pass : (w : Setting) (m here next : Moment) (order between after : Order) (l0 l1 l2 : ℕ) (b0 b1 b2 : List ℕ) (sweep : Sweep) (ending : Ending)
     → PassesSoFar w m here order between l0 l1 b0 b1 → (p : PassSoFar w here next between after l1 l2 b1 b2 sweep) → EndsLastPass w l2 next sweep p.picks ending
     → FollowsOrder w order l0 m next b0 b2 ending
-last_pass w m here next order between after l0 l1 l2 b0 b1 b2 sweep ending h p ends = record {
-  earlier = h.picks;
-  later = p.picks;
-  middle = here;
-  between = between;
-  passes = h.passes;
-  gone_on = after;
-  sweep = sweep;
-  last_pass = p.pass;
-  appended = p.appended ∙ ap (λ xs. xs ++ p.picks) h.appended ∙ append_assoc b0 h.picks p.picks;
-  left = l2;
-  spent = omega (arith, h.spent, p.spent, length-append h.picks p.picks);
-  ends = ends;
-}
+unfolding more_picks
+last_pass w m here next order between after l0 l1 l2 b0 b1 b2 sweep ending h p ends =
+    let all = more_picks (λ picks. WholePasses w m order picks here between) (λ picks. Unit {0}) l0 l1 l2 b0 b1 b2 p.picks h tt p.appended p.spent in
+    record {
+      earlier = h.picks;
+      later = p.picks;
+      middle = here;
+      between = between;
+      passes = h.made;
+      gone_on = after;
+      sweep = sweep;
+      last_pass = p.pass;
+      appended = all.appended;
+      left = l2;
+      spent = all.spent;
+      ends = ends;
+    }
 
 pub closure_rests : (w : Setting) (m here next : Moment) (order between after : Order) (l0 l1 l2 : ℕ) (b0 b1 b2 : List ℕ) → PassesSoFar w m here order between l0 l1 b0 b1
     → PassTurns w here next between after l1 l2 b1 b2 None → l2 ≡ l1 → FollowsOrder w order l0 m next b0 b2 Rest

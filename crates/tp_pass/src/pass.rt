@@ -4,11 +4,11 @@ ghost use Rattle.tp_scene.specs.Laws.{IsSound};
 ghost use Rattle.tp_decide.specs.Decided.{setting_of};
 ghost use Rattle.tp_slots.specs.Kept.{IsWellKept};
 ghost use Rattle.tp_step.specs.Answers.{moment_of};
-ghost use Rattle.tp_step.specs.Closes.{ClosureAnswers, Counts, LooksAt, Made, ending_of, is_pick};
+ghost use Rattle.tp_step.specs.Closes.{ClosureAnswers, Counts, Made, ending_of, is_pick};
 ghost use Rattle.tp_step.specs.EveryRest.{ClosureCommutes};
 ghost use Rattle.tp_step.specs.Room.{ClosureKeepsRoom};
-ghost use Rattle.tp_pass.specs.Follows.{FollowsOrder, PassTurns};
-ghost use Rattle.tp_pass.specs.Passes.{Passes};
+ghost use Rattle.tp_pass.specs.Follows.{FollowsOrder};
+ghost use Rattle.tp_pass.specs.Passes.{MakesPass};
 
 use crate::sweep::Sweep;
 use std::sync::ledger::Ledger;
@@ -16,54 +16,19 @@ use tp_step::{Course, Ending, Scene, Setting, Steps, Tally, Tried, has_item, try
 use tp_store::Store;
 use tp_value::NoMemory;
 
-// Tries the item where it is live, where so many reductions are left.
-fn look_at<L: Ledger>(
-    scene: &mut Scene,
-    item: u64,
-    store: &mut Store,
-    setting: &Setting,
-    room: u64,
-    steps: &mut Steps<L>,
-) -> Result<Option<Tried>, NoMemory>
-    requires sound { (kinds : List Bool)
-        × IsSound (setting_of setting.now) kinds (moment_of scene.old store.old) }
-    requires kept { IsWellKept scene.old }
-    ensures sound { IfOk result (λ looked.
-        (kinds : List Bool)
-        → IsSound (setting_of setting.now) kinds (moment_of scene.old store.old)
-        → IsSound (setting_of setting.now) kinds (moment_of scene.new store.new)) }
-    ensures kept { IsWellKept scene.new }
-    ensures looks { IfOk result
-        (LooksAt (setting_of setting.now) room (moment_of scene.old store.old) item
-        (moment_of scene.new store.new)) }
-    ensures err { OnErr result (moment_of scene.new store.new ≡ moment_of scene.old store.old) }
-{
-    if has_item(scene, item) {
-        let tried = try_item(scene, item, store, setting, room, steps)?;
-        Ok(Some(tried))
-    } else {
-        Ok(None)
-    }
-}
-
 // Whether the item was reduced.
-fn is_pick(looked: &Option<Tried>) -> bool
-    ensures { result ≡ is_pick looked.now }
+fn is_pick(tried: &Tried) -> bool
+    ensures { result ≡ is_pick (Some tried.now) }
 {
-    matches!(looked, Some(Tried::Reduced(_)))
+    matches!(tried, Tried::Reduced(_))
 }
 
 // The end of the closure, where what came of the item ends it.
-fn ending_of(looked: Option<Tried>) -> Option<Ending>
-    ensures { result ≡ ending_of looked }
+fn ending_of(tried: Tried) -> Option<Ending>
+    ensures { result ≡ ending_of (Some tried) }
 {
-    let Some(tried) = looked else {
-        return None;
-    };
     match tried {
-        Tried::Reduced(_) => None,
-        Tried::Waits(_, _) => None,
-        Tried::Rests => None,
+        Tried::Reduced(_) | Tried::Waits(_, _) | Tried::Rests => None,
         Tried::Clash(clash) => Some(Ending::Clash(clash)),
         Tried::Missing(port) => Some(Ending::Missing(port)),
         Tried::Over(limit) => Some(Ending::Over(limit)),
@@ -72,14 +37,14 @@ fn ending_of(looked: Option<Tried>) -> Option<Ending>
 
 // Records what came of an item, whose number was put last among the picks before it was tried: where it was reduced the number stays, else
 // it goes.
-fn record(looked: &Option<Tried>, left: &mut u64, tally: &mut Tally)
-    requires left { is_pick looked.now ≡ true → 0 < left.old }
+fn record(tried: &Tried, left: &mut u64, tally: &mut Tally)
+    requires left { is_pick (Some tried.now) ≡ true → 0 < left.old }
     ensures counts { (before : List ℕ) (item : ℕ) → tally.old.picks ≡ before ++ item ∷ []
-        → Counts (is_pick looked.now) item left.old left.new before tally.new.picks }
+        → Counts (is_pick (Some tried.now)) item left.old left.new before tally.new.picks }
     ensures waits { tally.new.waits ≡ tally.old.waits }
     ensures rests { tally.new.rests ≡ tally.old.rests }
 {
-    if is_pick(looked) {
+    if is_pick(tried) {
         *left -= 1;
     } else {
         tally.picks.items.pop();
@@ -98,36 +63,31 @@ fn pass<L: Ledger>(
     requires sound { (kinds : List Bool)
         × IsSound (setting_of setting.now) kinds (moment_of scene.old store.old) }
     requires kept { IsWellKept scene.old }
-    ensures sound { IfOk result (λ ended.
-        (kinds : List Bool)
-        → IsSound (setting_of setting.now) kinds (moment_of scene.old store.old)
-        → IsSound (setting_of setting.now) kinds (moment_of scene.new store.new)) }
     ensures kept { IsWellKept scene.new }
-    ensures passes { IfOk result
-        (Passes (setting_of setting.now) (moment_of scene.old store.old)
-        (moment_of scene.new store.new) course.old.room course.new.room tally.old.picks
-        tally.new.picks) }
+    ensures made { IfOk result
+        (MakesPass (setting_of setting.now) (moment_of scene.old store.old)
+        (moment_of scene.new store.new) course.old.order course.new.order course.old.room
+        course.new.room tally.old.picks tally.new.picks) }
     ensures err { OnErr result
         (Made (setting_of setting.now) (moment_of scene.old store.old)
         (moment_of scene.new store.new) course.old.room course.new.room tally.old.picks
         tally.new.picks) }
-    ensures turns { IfOk result
-        (PassTurns (setting_of setting.now) (moment_of scene.old store.old)
-        (moment_of scene.new store.new) course.old.order course.new.order course.old.room
-        course.new.room tally.old.picks tally.new.picks) }
     ensures waits { tally.new.waits ≡ tally.old.waits }
     ensures rests { tally.new.rests ≡ tally.old.rests }
 {
     let mut sweep = Sweep::begin(setting.alloc, scene, &mut course.order)?;
     'items: while let Some(item) = sweep.next(scene) {
+        if !has_item(scene, item) {
+            continue;
+        }
         // its place is taken before it is tried, so that nothing that was done goes unrecorded
         tally.picks.items.push(item)?;
-        let Ok(looked) = look_at(scene, item, store, setting, course.room, steps) else {
+        let Ok(tried) = try_item(scene, item, store, setting, course.room, steps) else {
             tally.picks.items.pop();
             return Err(NoMemory);
         };
-        record(&looked, &mut course.room, tally);
-        match ending_of(looked) {
+        record(&tried, &mut course.room, tally);
+        match ending_of(tried) {
             Some(ending) => return Ok(Some(ending)),
             None => {}
         }

@@ -3,18 +3,14 @@ use Rattle.tp_decide.specs.Decided.{setting_of}
 use Rattle.tp_slots.specs.Kept.{IsWellKept}
 use Rattle.tp_step.specs.Answers.{moment_of}
 use Rattle.tp_pass.specs.Sweeps.{turns_left}
-use Rattle.tp_pass.proofs.Following.{TurnsSoFar}
-use Rattle.tp_pass.proofs.Picks.{Passing}
+use Rattle.tp_pass.proofs.OnePass.{IsPassing}
 use Rattle.tp_pass.proofs.pass.pass.Given as goal
 
 abbrev pub invariant-items : goal.invariant-items
 invariant-items g l =
-    let w = setting_of l.setting in
     let first = moment_of l.initial.scene l.initial.store in
-    let here = moment_of l.scene l.store in
     record {
-      passing : Passing w first here l.initial.course.room l.course.room l.initial.tally.picks l.tally.picks l.sweep;
-      turns : TurnsSoFar w first here l.initial.sweep l.sweep l.initial.course.room l.course.room l.initial.tally.picks l.tally.picks;
+      so_far : IsPassing (setting_of l.setting) first (moment_of l.scene l.store) l.initial.sweep l.sweep l.initial.course.room l.course.room l.initial.tally.picks l.tally.picks;
       order : l.course.order ≡ l.initial.course.order;
       waits : l.tally.waits ≡ l.initial.tally.waits;
       rests : l.tally.rests ≡ l.initial.tally.rests;
