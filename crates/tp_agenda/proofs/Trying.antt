@@ -101,29 +101,28 @@ module _ (w : Setting) (m here : Moment) (order between : Order) (room left : �
         counted = omega (arith, h.counted, counts, longer);
       }
 
+  -- a try that picks nothing
+  tried_idly : (after : Order) (ws' : List Wait) (rs' : List ℕ) (left' : ℕ) (now' : List ℕ) (new' : ℕ) → TriesSoFar w m order h.picks ws' rs' here after
+      → length ws' + length rs' ≡ suc (length ws + length rs) → left' ≡ left → now' ≡ now → new' ≡ new + 1 → AgendaSoFar w m here order after room left' before now' ws' rs' old new'
+  tried_idly after ws' rs' left' now' new' tries longer same still counts = record {
+    picks = h.picks;
+    tries = tries;
+    appended = still ∙ h.appended;
+    spent = omega (arith, h.spent, same);
+    counted = omega (arith, h.counted, counts, longer);
+  }
+
   pub agenda_waits : (after : Order) (x : Wait) (left' : ℕ) (now' : List ℕ) (new' : ℕ) → TriesNext (IsReady here ws rs) between after x.item → outcome_of w here.store here.scene x.item ≡ waits x.first x.other
       → left' ≡ left → now' ≡ now → new' ≡ new + 1 → AgendaSoFar w m here order after room left' before now' (ws ++ x ∷ []) rs old new'
-  agenda_waits after x left' now' new' turn answer same still counts =
+  agenda_waits after x left' now' new' turn answer =
       let longer = length-append ws (x ∷ []) in
-      record {
-        picks = h.picks;
-        tries = one_wait x h.tries turn answer;
-        appended = still ∙ h.appended;
-        spent = omega (arith, h.spent, same);
-        counted = omega (arith, h.counted, counts, longer);
-      }
+      tried_idly after (ws ++ x ∷ []) rs left' now' new' (one_wait x h.tries turn answer) (omega (arith, longer))
 
   pub agenda_rests : (after : Order) (t left' : ℕ) (now' : List ℕ) (new' : ℕ) → TriesNext (IsReady here ws rs) between after t → outcome_of w here.store here.scene t ≡ rests
       → left' ≡ left → now' ≡ now → new' ≡ new + 1 → AgendaSoFar w m here order after room left' before now' ws (rs ++ t ∷ []) old new'
-  agenda_rests after t left' now' new' turn answer same still counts =
+  agenda_rests after t left' now' new' turn answer =
       let longer = length-append rs (t ∷ []) in
-      record {
-        picks = h.picks;
-        tries = one_rest t h.tries turn answer;
-        appended = still ∙ h.appended;
-        spent = omega (arith, h.spent, same);
-        counted = omega (arith, h.counted, counts, longer);
-      }
+      tried_idly after ws (rs ++ t ∷ []) left' now' new' (one_rest t h.tries turn answer) (omega (arith, longer))
 
   pub agenda_made : Made w m here room left before now
   agenda_made = record { picks = h.picks; leads = tries_lead w m order h.tries; appended = h.appended; spent = h.spent }
