@@ -21,6 +21,11 @@ newest_now : (b : Bool) (v : ℕ) (o : Option ℕ) → unwrap_or (cond b (Some v
 newest_now true v o = refl
 newest_now false v o = refl
 
+-- The newest links of keys lead to the same places as before, with one more for each key that passes the test.
+record AreFiled {K : Type 0} (ls ls' : List Link) (place : ℕ) (heads heads' : K → ℕ) (test : K → Bool) : Type 0 where
+  fit : (q : K) → heads' q ≤ length ls'
+  places : (q : K) → named_from ls' (heads' q) ≡ cond (test q) (place ∷ named_from ls (heads q)) (named_from ls (heads q))
+
 -- Keys with their newest links, before and after a link was put in front of the n-th, which is the
 -- newest of each key that passes the test.
 module _ {K : Type 0} (ls ls' : List Link) (place n : ℕ) (heads heads' : K → ℕ) (test : K → Bool)
@@ -31,7 +36,7 @@ module _ {K : Type 0} (ls ls' : List Link) (place n : ℕ) (heads heads' : K →
   now_at : (b : Bool) (q : K) → test q ≡ b → heads' q ≡ cond b (suc (length ls)) (heads q)
   now_at b q e = now q ∙ ap (λ z. cond z (suc (length ls)) (heads q)) e
 
-  pub heads_fit : (q : K) → heads' q ≤ length ls'
+  heads_fit : (q : K) → heads' q ≤ length ls'
   heads_fit q =
       let a = length-append ls (record { place = place; next = n } ∷ []) in
       let g = ap length grown in
@@ -41,7 +46,7 @@ module _ {K : Type 0} (ls ls' : List Link) (place n : ℕ) (heads heads' : K →
         | inr isnt ↦ (let e : heads' q ≡ heads q = now_at false q isnt in omega (arith, a, g, e, f))
       ]
 
-  pub filed_one : (q : K) → named_from ls' (heads' q) ≡ cond (test q) (place ∷ named_from ls (heads q)) (named_from ls (heads q))
+  filed_one : (q : K) → named_from ls' (heads' q) ≡ cond (test q) (place ∷ named_from ls (heads q)) (named_from ls (heads q))
   filed_one q = elim (cases_Bool (test q)) [
     | inl is_so ↦ ap (named_from ls') (now_at true q is_so) ∙ ap (λ z. named_from z (suc (length ls))) grown ∙ named_new ls back place n within
         ∙ ap (λ z. place ∷ named_from ls z) (sym (same q is_so)) ∙ ap (λ z. cond z (place ∷ named_from ls (heads q)) (named_from ls (heads q))) (sym is_so)
@@ -49,10 +54,24 @@ module _ {K : Type 0} (ls ls' : List Link) (place n : ℕ) (heads heads' : K →
         ∙ ap (λ z. cond z (place ∷ named_from ls (heads q)) (named_from ls (heads q))) (sym isnt)
   ]
 
+  keys_filed : AreFiled ls ls' place heads heads' test
+  keys_filed = record { fit = heads_fit; places = filed_one }
+
+-- the link is that of one key
+key_filed : {K : Type 0} (ls ls' : List Link) (place v : ℕ) (key : K) (test : K → Bool) → ((q : K) → test q ≡ true → key ≡ q) → (kept kept' : K → Option ℕ) → LeadBack ls
+    → ((q : K) → unwrap_or (kept q) 0 ≤ length ls) → ls' ≡ ls ++ record { place = place; next = unwrap_or (kept key) 0 } ∷ [] → v ≡ suc (length ls)
+    → ((q : K) → kept' q ≡ cond (test q) (Some v) (kept q)) → AreFiled ls ls' place (λ q. unwrap_or (kept q) 0) (λ q. unwrap_or (kept' q) 0) test
+key_filed {K} ls ls' place v key test decides kept kept' back fit grown e put =
+    let heads : K → ℕ = λ q. unwrap_or (kept q) 0 in
+    let heads' : K → ℕ = λ q. unwrap_or (kept' q) 0 in
+    let now : (q : K) → heads' q ≡ cond (test q) (suc (length ls)) (heads q) =
+    (λ q. ap (λ o. unwrap_or o 0) (put q) ∙ newest_now (test q) v (kept q) ∙ ap (λ z. cond (test q) z (heads q)) e) in
+    keys_filed ls ls' place (heads key) heads heads' test back fit (fit key) (λ q is_so. ap heads (sym (decides q is_so))) grown now
+
 -- keys whose newest links stay
 module _ {K : Type 0} (ls ls' : List Link) (place n : ℕ) (heads heads' : K → ℕ) (back : LeadBack ls) (fit : (q : K) → heads q ≤ length ls) (within : n ≤ length ls)
     (grown : ls' ≡ ls ++ record { place = place; next = n } ∷ []) (now : (q : K) → heads' q ≡ heads q) where
-  pub others_fit : (q : K) → heads' q ≤ length ls'
+  others_fit : (q : K) → heads' q ≤ length ls'
   others_fit q =
       let a = length-append ls (record { place = place; next = n } ∷ []) in
       let g = ap length grown in
@@ -60,32 +79,33 @@ module _ {K : Type 0} (ls ls' : List Link) (place n : ℕ) (heads heads' : K →
       let e = now q in
       omega (arith, a, g, e, f)
 
-  pub others_stay : (q : K) → named_from ls' (heads' q) ≡ named_from ls (heads q)
+  others_stay : (q : K) → named_from ls' (heads' q) ≡ named_from ls (heads q)
   others_stay q = ap (named_from ls') (now q) ∙ ap (λ z. named_from z (heads q)) grown ∙ named_old ls back place n within (heads q) (fit q)
+
+  others_filed : AreFiled ls ls' place heads heads' (λ q. false)
+  others_filed = record { fit = others_fit; places = others_stay }
 
 abbrev HasLink : (old new : Index) → (place n : ℕ) → Type 0
 HasLink old new place n = new.links.items ≡ old.links.items ++ record { place = place; next = n } ∷ []
+
+has_filed : (old new : Index) (place n : ℕ) → IsChained old → HasLink old new place n → n ≤ length old.links.items → (path : Path → Bool) (region : ℕ → Bool)
+    → AreFiled old.links.items new.links.items place (newest_at old) (newest_at new) path
+    → AreFiled old.links.items new.links.items place (newest_for old) (newest_for new) region → HasFiled old new place path region
+has_filed old new place n h grown within path region at for = record {
+  chained = record { nexts = subst LeadBack (sym grown) (lead_back old.links.items h.nexts place n within); paths_fit = at.fit; ends_fit = for.fit };
+  paths = at.places;
+  ends = for.places;
+}
 
 pub filed_under_path : (old new : Index) (path : Path) (place v : ℕ) → IsChained old → HasLink old new place (newest_at old path) → v ≡ suc (length old.links.items)
     → ((q : Path) → kept_of new q q.at ≡ cond (equal_paths path q) (Some v) (kept_of old q q.at)) → ((r : ℕ) → newest_for new r ≡ newest_for old r)
     → HasFiled old new place (equal_paths path) (λ r. false)
 filed_under_path old new path place v h grown e put stay =
     let ls = old.links.items in
-    let ls' = new.links.items in
     let n = newest_at old path in
-    let within = h.paths_fit path in
-    let same : (q : Path) → equal_paths path q ≡ true → newest_at old q ≡ n = λ q is_so. ap (newest_at old) (sym ((equal_paths-decides path q).0 is_so)) in
-    let now : (q : Path) → newest_at new q ≡ cond (equal_paths path q) (suc (length ls)) (newest_at old q) =
-    (λ q. ap (λ o. unwrap_or o 0) (put q) ∙ newest_now (equal_paths path q) v (kept_of old q q.at) ∙ ap (λ z. cond (equal_paths path q) z (newest_at old q)) e) in
-    record {
-      chained = record {
-        nexts = subst LeadBack (sym grown) (lead_back ls h.nexts place n within);
-        paths_fit = heads_fit ls ls' place n (newest_at old) (newest_at new) (equal_paths path) h.nexts h.paths_fit within same grown now;
-        ends_fit = others_fit ls ls' place n (newest_for old) (newest_for new) h.nexts h.ends_fit within grown stay;
-      };
-      paths = filed_one ls ls' place n (newest_at old) (newest_at new) (equal_paths path) h.nexts h.paths_fit within same grown now;
-      ends = others_stay ls ls' place n (newest_for old) (newest_for new) h.nexts h.ends_fit within grown stay;
-    }
+    has_filed old new place n h grown (h.paths_fit path) (equal_paths path) (λ r. false)
+    (key_filed ls new.links.items place v path (equal_paths path) (λ q. (equal_paths-decides path q).0) (λ q. kept_of old q q.at) (λ q. kept_of new q q.at) h.nexts h.paths_fit grown e put)
+    (others_filed ls new.links.items place n (newest_for old) (newest_for new) h.nexts h.ends_fit (h.paths_fit path) grown stay)
 
 -- the links of an item are kept by its index, and those of paths with more indices by the paths
 pub item_found : (x : Index) (p : Path) (at : List ℕ) → length at ≡ 1 → kept_of x p at ≡ get equal_items x.items (record { var = p.var; index = get_or at 0 0 })
@@ -150,21 +170,10 @@ pub filed_under_end : (old new : Index) (region : ℕ) (place v : ℕ) → IsCha
     → HasFiled old new place (λ q. false) (nat_eq region)
 filed_under_end old new region place v h grown e put stay =
     let ls = old.links.items in
-    let ls' = new.links.items in
     let n = newest_for old region in
-    let within = h.ends_fit region in
-    let same : (r : ℕ) → nat_eq region r ≡ true → newest_for old r ≡ n = λ r is_so. ap (newest_for old) (sym ((Decides-eqb region r).0 is_so)) in
-    let now : (r : ℕ) → newest_for new r ≡ cond (nat_eq region r) (suc (length ls)) (newest_for old r) =
-    (λ r. ap (λ o. unwrap_or o 0) (put r) ∙ newest_now (nat_eq region r) v (get nat_eq old.ends r) ∙ ap (λ z. cond (nat_eq region r) z (newest_for old r)) e) in
-    record {
-      chained = record {
-        nexts = subst LeadBack (sym grown) (lead_back ls h.nexts place n within);
-        paths_fit = others_fit ls ls' place n (newest_at old) (newest_at new) h.nexts h.paths_fit within grown stay;
-        ends_fit = heads_fit ls ls' place n (newest_for old) (newest_for new) (nat_eq region) h.nexts h.ends_fit within same grown now;
-      };
-      paths = others_stay ls ls' place n (newest_at old) (newest_at new) h.nexts h.paths_fit within grown stay;
-      ends = filed_one ls ls' place n (newest_for old) (newest_for new) (nat_eq region) h.nexts h.ends_fit within same grown now;
-    }
+    has_filed old new place n h grown (h.ends_fit region) (λ q. false) (nat_eq region)
+    (others_filed ls new.links.items place n (newest_at old) (newest_at new) h.nexts h.paths_fit (h.ends_fit region) grown stay)
+    (key_filed ls new.links.items place v region (nat_eq region) (λ r. (Decides-eqb region r).0) (get nat_eq old.ends) (get nat_eq new.ends) h.nexts h.ends_fit grown e put)
 
 -- the new link names the place
 pub pushed : (old new : Index) (place n : ℕ) → HasLink old new place n → IsPushed old new place
