@@ -234,6 +234,11 @@ pub record GoesOn (w : Setting) (first next : Moment) (order after : Order) (roo
   pub taken : TakenAreKnown next.scene board'
   pub smaller : left' * 2 ^ 64 + count_by (λ b. b) board'.ready < left * 2 ^ 64 + count_by (λ b. b) board.ready
 
+-- What holds after any try, which the closure goes on with or ends.
+pub record ComesOf (w : Setting) (first next : Moment) (order after : Order) (room left left' : ℕ) (before now : List ℕ) (ws : List Wait) (rs : List ℕ) (old new : ℕ) (board board' : Board) (ended : Option Ending) : Type 0 where
+  pub goes_on : ended ≡ None → GoesOn w first next order after room left left' before now ws rs old new board board'
+  pub ends : (ending : Ending) → ended ≡ Some ending → ClosesWith w first next order room before now ws rs old new ending
+
 module _ (w : Setting) (first here : Moment) (order between after : Order) (room left : ℕ) (before now : List ℕ) (ws : List Wait) (rs : List ℕ) (old new : ℕ)
     (so_far : AgendaSoFar w first here order between room left before now ws rs old new)
     (board taken : Board) (held : IsHeld w here ws rs board.over.items board.ready nothing_due) (t : ℕ) (turn : TriesNext (IsFlagged board.ready) between after t) (without_it : taken ≡ without board t)
@@ -293,7 +298,7 @@ module _ (w : Setting) (first here : Moment) (order between after : Order) (room
       })
 
   -- the closure goes on
-  pub goes_on : (o : Tried) → Tries w left here t next o → Counts (is_pick (Some o)) t left left' now now' → TakesIn next.scene t o taken board' ws ws' rs rs' None → Goes ws' rs'
+  goes_on : (o : Tried) → Tries w left here t next o → Counts (is_pick (Some o)) t left left' now now' → TakesIn next.scene t o taken board' ws ws' rs rs' None → Goes ws' rs'
   goes_on (tried.Reduced news) x c k =
       subst (λ (xs : List Wait). Goes xs rs') (sym k.2) (subst (λ (ts : List ℕ). Goes ws ts) (sym k.3) (goes_reduced x.0 news x.2 x.3 c.0 c.1 k.1))
   goes_on (tried.Waits f o) x c k = subst (λ (ts : List ℕ). Goes ws' ts) (sym k.2) (goes_waiting f o x.0 x.1 c.0 c.1 k.1)
@@ -319,7 +324,7 @@ module _ (w : Setting) (first here : Moment) (order between after : Order) (room
       subst (λ (xs : List Wait). Ends xs rs' ending) (sym x) (subst (λ (ts : List ℕ). Ends ws ts ending) (sym y) (subst (Ends ws rs) same h))
 
   -- the closure ends with the item
-  pub ends_with : (o : Tried) (ending : Ending) → Tries w left here t next o → Counts (is_pick (Some o)) t left left' now now' → TakesIn next.scene t o taken board' ws ws' rs rs' (Some ending) → Ends ws' rs' ending
+  ends_with : (o : Tried) (ending : Ending) → Tries w left here t next o → Counts (is_pick (Some o)) t left left' now now' → TakesIn next.scene t o taken board' ws ws' rs rs' (Some ending) → Ends ws' rs' ending
   ends_with (tried.Reduced news) ending x c k = absurd (let z = k.0 in cc)
   ends_with (tried.Waits f o) ending x c k = absurd (let z = k.0 in cc)
   ends_with tried.Rests ending x c k = absurd (let z = k.0 in cc)
@@ -336,11 +341,11 @@ module _ (w : Setting) (first here : Moment) (order between after : Order) (room
         (subst (λ (ts : List ℕ). TakesIn next.scene t o taken board' ws ws' ts rs' ended) same_rests
         (subst (λ (xs : List Wait). TakesIn next.scene t o taken board' xs ws' rs1 rs' ended) same_waits takes))
 
-    pub goes_on_so : ended ≡ None → GoesOn w first next order after room left left' before picks ws' rs' old new' board board'
-    goes_on_so is = subst (λ xs. GoesOn w first next order after room left left' before xs ws' rs' old new' board board') (sym same_picks) (goes_on o tries counted (takes_in None is))
-
-    pub ends_with_so : (ending : Ending) → ended ≡ Some ending → ClosesWith w first next order room before picks ws' rs' old new' ending
-    ends_with_so ending is = subst (λ xs. ClosesWith w first next order room before xs ws' rs' old new' ending) (sym same_picks) (ends_with o ending tries counted (takes_in (Some ending) is))
+    pub comes_of : ComesOf w first next order after room left left' before picks ws' rs' old new' board board' ended
+    comes_of = record {
+      goes_on = λ is. subst (λ xs. GoesOn w first next order after room left left' before xs ws' rs' old new' board board') (sym same_picks) (goes_on o tries counted (takes_in None is));
+      ends = λ ending is. subst (λ xs. ClosesWith w first next order room before xs ws' rs' old new' ending) (sym same_picks) (ends_with o ending tries counted (takes_in (Some ending) is));
+    }
 
 pub agenda_starts : (w : Setting) (m : Moment) (order : Order) (room : ℕ) (before : List ℕ) (ws : List Wait) (rs : List ℕ) (old : ℕ) → ws ≡ [] → rs ≡ [] → AgendaSoFar w m m order order room room before before ws rs old old
 agenda_starts w m order room before ws rs old a b =

@@ -1,5 +1,5 @@
 -- Each ready item is tried in its turn.
-use Rattle.std.proofs.Common.{◌<◌, ℕ, List, [], ◌∷◌, ◌++◌, length, refl, ap, sym, ◌∙◌, subst}
+use Rattle.std.proofs.Common.{◌≡◌, ◌<◌, ℕ, List, [], ◌∷◌, ◌++◌, length, refl, ap, sym, ◌∙◌, subst}
 use Rattle.std.specs.List.{All}
 use Rattle.tp_decide.specs.Decided.{setting_of}
 use Rattle.tp_step.specs.declared.answer.Tally.{Tally}
@@ -13,7 +13,9 @@ use Rattle.tp_agenda.specs.Board.{FitsBoard, NewsAreNear}
 use Rattle.tp_agenda.specs.Held.{IsHeld, nothing_due}
 use Rattle.tp_agenda.proofs.Near.{news_near}
 use Rattle.tp_agenda.proofs.Trying.{agenda_sound}
-use Rattle.tp_agenda.proofs.Closing.{agenda_starts, turn_lives, goes_on_so, ends_with_so, tried_made, picks_have_room, rests_with, waits_below, still_fits, same_size}
+use Rattle.tp_agenda.proofs.Closing.{ComesOf, agenda_starts, comes_of, turn_lives, tried_made, picks_have_room, rests_with, waits_below, still_fits, same_size}
+use Rattle.tp_agenda.proofs.closure.try_ready.Given.{Over}
+use Rattle.tp_agenda.proofs.closure.try_ready.Goals.{After-count_pick, After-take_in, In_ok-ending}
 use Rattle.tp_agenda.proofs.closure.try_ready.Goals as goal
 
 pub tries-init : goal.tries-init
@@ -53,19 +55,21 @@ count_pick-requires g c = record {
   left = picks_have_room (setting_of c.args.setting.now) c.in-Some.item c.tries.agenda.course.room (moment_of c.tries.scene c.tries.store) (moment_of c.try_item.new.scene c.try_item.new.store) c.in-Ok.tried c.in-Ok.ensures.answer;
 }
 
+-- the waits are those that there were
+same_waits : (g : Over) (c : After-count_pick g) → c.count_pick.new.tally.waits.items.items ≡ c.tries.tally.waits.items.items
+same_waits g c = ap (λ (x : Waits). x.items.items) (c.count_pick.ensures.waits ∙ ap (λ (y : Tally). y.waits) c.tally.view_is)
+
 pub take_in-requires-clause-fits : goal.take_in-requires-clause-fits
 take_in-requires-clause-fits g c =
-    let board = c.tries.agenda.board in
     let taken = c.next.new.self in
-    let same = ap (λ (x : Waits). x.items.items) (c.count_pick.ensures.waits ∙ ap (λ (y : Tally). y.waits) c.tally.view_is) in
-    subst (λ (xs : List Wait). FitsBoard xs taken) (sym same) (still_fits c.tries.tally.waits.items.items board taken c.in-Some.item (c.in-Some.ensures.taken c.in-Some.item refl) c.tries.invariant.fits)
+    subst (λ (xs : List Wait). FitsBoard xs taken) (sym (same_waits g (goal.at.take_in-requires-clause-fits g c).After-count_pick))
+    (still_fits c.tries.tally.waits.items.items c.tries.agenda.board taken c.in-Some.item (c.in-Some.ensures.taken c.in-Some.item refl) c.tries.invariant.fits)
 
 pub take_in-requires-clause-below : goal.take_in-requires-clause-below
 take_in-requires-clause-below g c =
     let board = c.tries.agenda.board in
     let taken = c.next.new.self in
-    let same = ap (λ (x : Waits). x.items.items) (c.count_pick.ensures.waits ∙ ap (λ (y : Tally). y.waits) c.tally.view_is) in
-    subst (λ (xs : List Wait). All (λ (x : Wait). x.item < length taken.ready) xs) (sym same)
+    subst (λ (xs : List Wait). All (λ (x : Wait). x.item < length taken.ready) xs) (sym (same_waits g (goal.at.take_in-requires-clause-below g c).After-count_pick))
     (waits_below (setting_of c.args.setting.now) (moment_of c.tries.scene c.tries.store) c.tries.tally.waits.items.items c.tries.tally.rests board.over.items board.ready c.tries.invariant.held (length taken.ready)
     (same_size board taken c.in-Some.item (c.in-Some.ensures.taken c.in-Some.item refl)))
 
@@ -79,17 +83,28 @@ take_in-requires-clause-near g c =
     let sound = c.requires.sound in
     let item = c.in-Some.item in
     let here = moment_of c.tries.scene c.tries.store in
-    let same = ap (λ (x : Waits). x.items.items) (c.count_pick.ensures.waits ∙ ap (λ (y : Tally). y.waits) c.tally.view_is) in
     let without = c.in-Some.ensures.taken item refl in
     let sound_here = agenda_sound w (moment_of c.args.scene.now c.args.store.now) here _ _ _ _ _ _ tally.waits.items.items tally.rests _ _ inv.so_far sound.0 sound.1 in
     let lives = turn_lives w (moment_of c.args.scene.now c.args.store.now) here _ _ c.next.new.order _ _ _ _ tally.waits.items.items tally.rests _ _
     inv.so_far board taken inv.held item (c.in-Some.ensures.some item refl) (c.in-Some.ensures.taken item refl) in
-    subst (λ (xs : List Wait). NewsAreNear c.try_item.new.scene c.in-Ok.tried taken xs) (sym same)
+    subst (λ (xs : List Wait). NewsAreNear c.try_item.new.scene c.in-Ok.tried taken xs) (sym (same_waits g (goal.at.take_in-requires-clause-near g c).After-count_pick))
     (news_near w sound.0 c.tries.scene c.try_item.new.scene c.tries.store c.try_item.new.store item sound_here inv.kept c.try_item.ensures.kept lives c.tries.agenda.course.room
     tally.waits.items.items tally.rests board taken inv.held inv.taken (ap (λ (b : Board). b.over) without) (ap (λ (b : Board). b.taken) without) c.in-Ok.tried c.in-Ok.ensures.answer)
 
-pub tries-preserved : goal.tries-preserved
-tries-preserved g c =
+-- the picks that were made, and what comes of the last try
+made : (g : Over) (c : After-take_in g) → Made (setting_of c.args.setting.now) (moment_of c.args.scene.now c.args.store.now) (moment_of c.try_item.new.scene c.try_item.new.store)
+    c.args.agenda.now.course.room c.count_pick.new.left c.args.tally.now.picks c.take_in.new.tally.picks
+made g c =
+    let w = setting_of c.args.setting.now in
+    let first = moment_of c.args.scene.now c.args.store.now in
+    let next = moment_of c.try_item.new.scene c.try_item.new.store in
+    subst (λ xs. Made w first next c.args.agenda.now.course.room c.count_pick.new.left c.args.tally.now.picks xs) (sym c.take_in.ensures.picks)
+    (tried_made w first (moment_of c.tries.scene c.tries.store) next c.in-Some.item _ _ _ _ c.tries.tally.picks _ c.in-Ok.tried c.tries.invariant.made c.in-Ok.ensures.answer (c.count_pick.ensures.counts c.tries.tally.picks c.in-Some.item (c.in_ok-push.ensures.items ∙ ap (λ (y : Tally). y.picks ++ c.in-Some.item ∷ []) c.tally.view_is)))
+
+came : (g : Over) (c : In_ok-ending g) → ComesOf (setting_of c.args.setting.now) (moment_of c.args.scene.now c.args.store.now) (moment_of c.try_item.new.scene c.try_item.new.store)
+    c.args.agenda.now.course.order c.next.new.order c.args.agenda.now.course.room c.tries.agenda.course.room c.count_pick.new.left c.args.tally.now.picks c.take_in.new.tally.picks
+    c.take_in.new.tally.waits.items.items c.take_in.new.tally.rests c.args.steps.now c.try_item.new.steps c.tries.agenda.board c.take_in.new.self c.in_ok-ending.field-0
+came g c =
     let w = setting_of c.args.setting.now in
     let first = moment_of c.args.scene.now c.args.store.now in
     let here = moment_of c.tries.scene c.tries.store in
@@ -97,18 +112,20 @@ tries-preserved g c =
     let item = c.in-Some.item in
     let tally = c.tries.tally in
     let inv = c.tries.invariant in
-    let now = tally.picks in
-    let counts = c.count_pick.ensures.counts now item (c.in_ok-push.ensures.items ∙ ap (λ (y : Tally). y.picks ++ item ∷ []) c.tally.view_is) in
-    let same_waits = ap (λ (x : Waits). x.items.items) (c.count_pick.ensures.waits ∙ ap (λ (y : Tally). y.waits) c.tally.view_is) in
+    let same_waits_now = ap (λ (x : Waits). x.items.items) (c.count_pick.ensures.waits ∙ ap (λ (y : Tally). y.waits) c.tally.view_is) in
+    let counts = c.count_pick.ensures.counts tally.picks item (c.in_ok-push.ensures.items ∙ ap (λ (y : Tally). y.picks ++ item ∷ []) c.tally.view_is) in
     let same_rests = c.count_pick.ensures.rests ∙ ap (λ (y : Tally). y.rests) c.tally.view_is in
-    let on = goes_on_so w first here _ _ c.next.new.order _ _ _ now tally.waits.items.items tally.rests _ _ inv.so_far c.tries.agenda.board c.next.new.self inv.held item
+    comes_of w first here _ _ c.next.new.order _ _ _ tally.picks tally.waits.items.items tally.rests _ _ inv.so_far c.tries.agenda.board c.next.new.self inv.held item
     (c.in-Some.ensures.some item refl) (c.in-Some.ensures.taken item refl) inv.fits inv.flags inv.taken c.requires.sound.0 c.requires.sound.1 next c.count_pick.new.left c.count_pick.new.tally.picks c.try_item.new.steps c.try_item.ensures.steps
-    c.take_in.new.self c.take_in.new.tally.waits.items.items c.take_in.new.tally.rests c.count_pick.new.tally.waits.items.items c.count_pick.new.tally.rests same_waits same_rests
-    c.take_in.new.tally.picks c.take_in.ensures.picks c.in-Ok.tried c.in-Ok.ensures.answer counts c.in_ok-ending.field-0 c.in_ok-ending.ensures.takes c.in-None.is in
+    c.take_in.new.self c.take_in.new.tally.waits.items.items c.take_in.new.tally.rests c.count_pick.new.tally.waits.items.items c.count_pick.new.tally.rests same_waits_now same_rests
+    c.take_in.new.tally.picks c.take_in.ensures.picks c.in-Ok.tried c.in-Ok.ensures.answer counts c.in_ok-ending.field-0 c.in_ok-ending.ensures.takes
+
+pub tries-preserved : goal.tries-preserved
+tries-preserved g c =
+    let on = (came g (goal.at.tries-preserved g c).In_ok-ending).goes_on c.in-None.is in
     record {
       so_far = on.so_far;
-      made = subst (λ xs. Made w first next c.args.agenda.now.course.room c.count_pick.new.left c.args.tally.now.picks xs) (sym c.take_in.ensures.picks)
-          (tried_made w first here next item _ _ _ _ now _ c.in-Ok.tried inv.made c.in-Ok.ensures.answer counts);
+      made = made g (goal.at.tries-preserved g c).After-take_in;
       held = on.held;
       fits = on.fits;
       flags = on.flags;
@@ -117,55 +134,13 @@ tries-preserved g c =
     }
 
 pub tries-smaller : goal.tries-smaller
-tries-smaller g c =
-    let w = setting_of c.args.setting.now in
-    let first = moment_of c.args.scene.now c.args.store.now in
-    let here = moment_of c.tries.scene c.tries.store in
-    let next = moment_of c.try_item.new.scene c.try_item.new.store in
-    let item = c.in-Some.item in
-    let tally = c.tries.tally in
-    let inv = c.tries.invariant in
-    let now = tally.picks in
-    let counts = c.count_pick.ensures.counts now item (c.in_ok-push.ensures.items ∙ ap (λ (y : Tally). y.picks ++ item ∷ []) c.tally.view_is) in
-    let same_waits = ap (λ (x : Waits). x.items.items) (c.count_pick.ensures.waits ∙ ap (λ (y : Tally). y.waits) c.tally.view_is) in
-    let same_rests = c.count_pick.ensures.rests ∙ ap (λ (y : Tally). y.rests) c.tally.view_is in
-    (goes_on_so w first here _ _ c.next.new.order _ _ _ now tally.waits.items.items tally.rests _ _ inv.so_far c.tries.agenda.board c.next.new.self inv.held item
-    (c.in-Some.ensures.some item refl) (c.in-Some.ensures.taken item refl) inv.fits inv.flags inv.taken c.requires.sound.0 c.requires.sound.1 next c.count_pick.new.left c.count_pick.new.tally.picks c.try_item.new.steps c.try_item.ensures.steps
-    c.take_in.new.self c.take_in.new.tally.waits.items.items c.take_in.new.tally.rests c.count_pick.new.tally.waits.items.items c.count_pick.new.tally.rests same_waits same_rests
-    c.take_in.new.tally.picks c.take_in.ensures.picks c.in-Ok.tried c.in-Ok.ensures.answer counts c.in_ok-ending.field-0 c.in_ok-ending.ensures.takes c.in-None.is).smaller
+tries-smaller g c = ((came g (goal.at.tries-smaller g c).In_ok-ending).goes_on c.in-None.is).smaller
 
 pub returns-in-Some-2-clause-closes : goal.returns-in-Some-2-clause-closes
-returns-in-Some-2-clause-closes g c =
-    let w = setting_of c.args.setting.now in
-    let first = moment_of c.args.scene.now c.args.store.now in
-    let here = moment_of c.tries.scene c.tries.store in
-    let next = moment_of c.try_item.new.scene c.try_item.new.store in
-    let item = c.in-Some.item in
-    let tally = c.tries.tally in
-    let inv = c.tries.invariant in
-    let now = tally.picks in
-    let counts = c.count_pick.ensures.counts now item (c.in_ok-push.ensures.items ∙ ap (λ (y : Tally). y.picks ++ item ∷ []) c.tally.view_is) in
-    let same_waits = ap (λ (x : Waits). x.items.items) (c.count_pick.ensures.waits ∙ ap (λ (y : Tally). y.waits) c.tally.view_is) in
-    let same_rests = c.count_pick.ensures.rests ∙ ap (λ (y : Tally). y.rests) c.tally.view_is in
-    ends_with_so w first here _ _ c.next.new.order _ _ _ now tally.waits.items.items tally.rests _ _ inv.so_far c.tries.agenda.board c.next.new.self inv.held item
-    (c.in-Some.ensures.some item refl) (c.in-Some.ensures.taken item refl) inv.fits inv.flags inv.taken c.requires.sound.0 c.requires.sound.1 next c.count_pick.new.left c.count_pick.new.tally.picks c.try_item.new.steps c.try_item.ensures.steps
-    c.take_in.new.self c.take_in.new.tally.waits.items.items c.take_in.new.tally.rests c.count_pick.new.tally.waits.items.items c.count_pick.new.tally.rests same_waits same_rests
-    c.take_in.new.tally.picks c.take_in.ensures.picks c.in-Ok.tried c.in-Ok.ensures.answer counts c.in_ok-ending.field-0 c.in_ok-ending.ensures.takes c.in-Some-2.ending c.in-Some-2.is
+returns-in-Some-2-clause-closes g c = (came g (goal.at.returns-in-Some-2-clause-closes g c).In_ok-ending).ends c.in-Some-2.ending c.in-Some-2.is
 
 pub returns-in_err-ending-clause-err : goal.returns-in_err-ending-clause-err
-returns-in_err-ending-clause-err g c =
-    let w = setting_of c.args.setting.now in
-    let first = moment_of c.args.scene.now c.args.store.now in
-    let here = moment_of c.tries.scene c.tries.store in
-    let next = moment_of c.try_item.new.scene c.try_item.new.store in
-    let item = c.in-Some.item in
-    let now = c.tries.tally.picks in
-    let counts = c.count_pick.ensures.counts now item (c.in_ok-push.ensures.items ∙ ap (λ (y : Tally). y.picks ++ item ∷ []) c.tally.view_is) in
-    on_refusal c.from_residual-in_err-ending.result (
-      c.count_pick.new.left,
-      subst (λ xs. Made w first next c.args.agenda.now.course.room c.count_pick.new.left c.args.tally.now.picks xs) (sym c.take_in.ensures.picks)
-          (tried_made w first here next item _ _ _ _ now _ c.in-Ok.tried c.tries.invariant.made c.in-Ok.ensures.answer counts),
-    )
+returns-in_err-ending-clause-err g c = on_refusal c.from_residual-in_err-ending.result (c.count_pick.new.left, made g (goal.at.returns-in_err-ending-clause-err g c).After-take_in)
 
 pub returns-clause-closes : goal.returns-clause-closes
 returns-clause-closes g c =
