@@ -94,28 +94,14 @@ fn push_linked(
     Ok(())
 }
 
-// Appends the slots, for which there is room.
-fn push_slots(list: &mut Vec<Slot>, news: Vec<Slot>)
+// Appends what is new, for which there is room.
+fn push_all<T: Drop>(list: &mut Vec<T>, mut news: Vec<T>)
     requires room { vec_len list.old + vec_len news ≤ vec_capacity list.old }
     ensures { list.new.items ≡ list.old.items ++ news.items }
 {
-    for slot in news {
-        let Ok(()) = list.push(slot) else {
-            unreachable!();
-        };
-    }
-}
-
-// Appends the regions, for which there is room.
-fn push_regions(list: &mut Vec<Region>, news: Vec<Region>)
-    requires room { vec_len list.old + vec_len news ≤ vec_capacity list.old }
-    ensures { list.new.items ≡ list.old.items ++ news.items }
-{
-    for region in news {
-        let Ok(()) = list.push(region) else {
-            unreachable!();
-        };
-    }
+    let Ok(()) = list.append(&mut news) else {
+        unreachable!();
+    };
 }
 
 // The region at `at` is held by the item.
@@ -210,9 +196,9 @@ fn commit(scene: &mut Scene, item: u64, side: Option<Side>, news: News)
         news.count,
     );
     set_mark(scene.regions.as_mut_slice(), home as usize, side);
-    push_regions(&mut scene.regions, news.regions);
+    push_all(&mut scene.regions, news.regions);
     hold_news(scene.regions.as_mut_slice(), first, news.slots.as_slice());
-    push_slots(&mut scene.slots, news.slots);
+    push_all(&mut scene.slots, news.slots);
 }
 
 // Makes what is to be put in an item's place: the items `outs` there, and the items `inner` in a new region, if there are any. Then there

@@ -1,5 +1,5 @@
 -- Each leaf stands as it is, linked to the one after it.
-use Rattle.std.proofs.Common.{◌≡◌, ◌∷◌, ◌++◌, [], map, length, ap, sym, ◌∙◌, arith, rules}
+use Rattle.std.proofs.Common.{◌∷◌, ◌++◌, [], map, ap, sym, ◌∙◌, arith, rules}
 use Rattle.std.proofs.lemmas.List.{map-append}
 use Rattle.tp_decide.specs.Decided.{plain_leaf}
 use Rattle.tp_decide.specs.declared.decision.Leaf.{Leaf}
@@ -9,12 +9,6 @@ use Rattle.tp_slots.specs.Row.{slots_in}
 use Rattle.tp_slots.specs.Read.{slot_of}
 use Rattle.tp_slots.proofs.Lists.{slots_then}
 use Rattle.tp_slots.proofs.leaves.push_leaves.Goals as goal
-
-pub push_link-requires-clause-within : goal.push_link-requires-clause-within
-push_link-requires-clause-within c =
-    let count : c.len-left.result ≡ length c.args.leaves.items = search rules in
-    let small = c.loop-leaf.invariant.4 in
-    omega (arith, count, small)
 
 pub loop-leaf-preserved : goal.loop-leaf-preserved
 loop-leaf-preserved c =

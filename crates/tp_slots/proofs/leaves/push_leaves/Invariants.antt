@@ -11,6 +11,6 @@ invariant-loop-leaf l =
     (goal.iterator-loop-leaf).is_finite l.leaf-iterator ×
     (map slot_of l.list.items ≡ map slot_of l.fn.list.items ++ slots_in l.home (bare_leaves l.yielded)) ×
     ((goal.iterator-loop-leaf).remaining l.leaf-iterator ≡ l.left) ×
-    (l.left ≤ length l.fn.leaves.items) ×
+    (l.left ≤ l.last) ×
     (map (λ x. x.after) l.list.items ++ links (l.last - l.left) l.left l.end ≡ map (λ x. x.after) l.fn.list.items ++ links l.first (length l.fn.leaves.items) l.end) ×
     (vec_len l.list + l.left ≤ vec_capacity l.list)

@@ -1,16 +1,10 @@
 -- Each slot is of that region, and linked to the one after it.
-use Rattle.std.proofs.Common.{◌≡◌, ◌∷◌, ◌++◌, [], map, length, ap, sym, ◌∙◌, arith, rules}
+use Rattle.std.proofs.Common.{◌∷◌, ◌++◌, [], map, ap, sym, ◌∙◌, arith, rules}
 use Rattle.std.proofs.lemmas.List.{map-append}
 use Rattle.tp_slots.specs.Row.{slots_in}
 use Rattle.tp_slots.specs.Read.{slot_of, what_of}
 use Rattle.tp_slots.proofs.Lists.{slots_then}
 use Rattle.tp_slots.proofs.put.push_linked.Goals as goal
-
-pub push_link-requires-clause-within : goal.push_link-requires-clause-within
-push_link-requires-clause-within c =
-    let count : c.len-left.result ≡ length c.args.whats.items = search rules in
-    let small = c.loop-what.invariant.4 in
-    omega (arith, count, small)
 
 pub loop-what-preserved : goal.loop-what-preserved
 loop-what-preserved c =

@@ -10,5 +10,5 @@ invariant-loop-what l =
     (goal.iterator-loop-what).is_finite l.what-iterator ×
     (map slot_of l.list.items ≡ map slot_of l.fn.list.items ++ slots_in l.home (map what_of l.yielded)) ×
     ((goal.iterator-loop-what).remaining l.what-iterator ≡ l.left) ×
-    (l.left ≤ length l.fn.whats.items) ×
+    (l.left ≤ l.last) ×
     (map (λ x. x.after) l.list.items ++ links (l.last - l.left) l.left l.end ≡ map (λ x. x.after) l.fn.list.items ++ links l.first (length l.fn.whats.items) l.end)
