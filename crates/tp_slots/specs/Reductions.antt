@@ -40,29 +40,24 @@ becomes_leaves s ws m =
       facts = [];
     }
 
+-- two items and a region, with no local, mark or fact
+abbrev pub begins_region : Entries → Reduction
+begins_region news =
+    record { news = news; items = 2; regions = 1; local = None; mark = None; facts = [] }
+
 -- a left region with one item, and what follows it
 abbrev pub becomes_split : S.Scene → (left : FormulaTree) → Bindings → (after : FormulaTree)
     → Bindings → Reduction
-becomes_split s f e g env = record {
-  news = split_then (1 + s.next_item) (region_of s.next_region (0 + s.next_item) f e) g env none;
-  items = 2;
-  regions = 1;
-  local = None;
-  mark = None;
-  facts = [];
-}
+becomes_split s f e g env =
+    let inner = region_of s.next_region (0 + s.next_item) f e in
+    begins_region (split_then (1 + s.next_item) inner g env none)
 
 -- an outer region with one item, and the piece that is to run in it
 abbrev pub becomes_opened : S.Scene → (outer : FormulaTree) → Bindings → (piece : FormulaTree)
     → Bindings → Reduction
-becomes_opened s f e g env = record {
-  news = opened_then (1 + s.next_item) (region_of s.next_region (0 + s.next_item) f e) g env none;
-  items = 2;
-  regions = 1;
-  local = None;
-  mark = None;
-  facts = [];
-}
+becomes_opened s f e g env =
+    let inner = region_of s.next_region (0 + s.next_item) f e in
+    begins_region (opened_then (1 + s.next_item) inner g env none)
 
 -- it holds the region with this number, and no other one
 abbrev pub HoldsOne : (region : ℕ) → What → Type 0
@@ -77,8 +72,8 @@ holder_then id (gone by) r = none
 -- a region with one item, and what holds it
 abbrev pub becomes_holder : S.Scene → (first : FormulaTree) → Bindings → What → Reduction
 becomes_holder s f e w =
-    let news = holder_then (1 + s.next_item) w (region_of s.next_region (0 + s.next_item) f e) in
-    record { news = news; items = 2; regions = 1; local = None; mark = None; facts = [] }
+    let inner = region_of s.next_region (0 + s.next_item) f e in
+    begins_region (holder_then (1 + s.next_item) w inner)
 
 -- the item t is reduced, whatever is known
 abbrev pub IsReduced : S.Scene → (t : ℕ) → Type 0
