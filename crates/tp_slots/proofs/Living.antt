@@ -75,39 +75,49 @@ module _ (s : Slots) (hs : List ℕ) (sound : IsOrdered s) (known : AreHeld s hs
       ∙ (ap (λ i. leads_to (slot_at s i).what p && lives_in s hs (slot_at s i).home) h
       ∙ (ap (λ (x : Slot). leads_to x.what p && lives_in s hs x.home) e ∙ and_from (leads_to w p) (lives_in s hs r) u v))
 
-  pub first_lives : (id r p : ℕ) (k : Holder) (o : Option ℕ) → id < length s.slots → slot_at s id ≡ record { home = r; what = holds k p o } → lives_in s hs r ≡ true → lives_in s hs p ≡ true
-  first_lives id r p k o l e v =
-      let f = subst (λ (x : Slot). WhatFits s x.home id x.what) e (sound.items id l).1 in
-      let h = subst (λ (x : Slot). HeldBy hs id x.what) e (known.by id l) in
-      let above = f.0.0 in
-      led id r p (holds k p o) l e h.0 (omega (arith, above)) f.0.1 (or_left (eqb p p) _ (eq-eqb p p refl)) v
+  -- What each region passes on to those that its items hold is so of the region in which an item stands that is found inside.
+  module _ (P : ℕ → Type 0) (held : (id r p : ℕ) (w : What) → id < length s.slots → slot_at s id ≡ record { home = r; what = w } → holder_at hs p ≡ id → 0 < p → p < length s.regions → leads_to w p ≡ true → P r → P p) where
+    first_so : (id r p : ℕ) (k : Holder) (o : Option ℕ) → id < length s.slots → slot_at s id ≡ record { home = r; what = holds k p o } → P r → P p
+    first_so id r p k o l e v =
+        let f = subst (λ (x : Slot). WhatFits s x.home id x.what) e (sound.items id l).1 in
+        let h = subst (λ (x : Slot). HeldBy hs id x.what) e (known.by id l) in
+        let above = f.0.0 in
+        held id r p (holds k p o) l e h.0 (omega (arith, above)) f.0.1 (or_left (eqb p p) _ (eq-eqb p p refl)) v
 
-  second_lives_too : (t id r p : ℕ) (k : Holder) (o : Option ℕ) (g : Head) (second : Entries) → id < length s.slots → slot_at s id ≡ record { home = r; what = holds k p o } → g ≡ other_head s o → second ≡ second_of (entries_at s) o
-      → has t second ≡ true → second_lives k ≡ true → lives_in s hs r ≡ true → lives_in s hs g.number ≡ true
-  second_lives_too t id r p k None g second l e a b h u v = absurd (both_ways (has t second) (ap (has t) b) h)
-  second_lives_too t id r p k (Some q) g second l e a b h u v =
-      let f = subst (λ (x : Slot). WhatFits s x.home id x.what) e (sound.items id l).1 in
-      let d = subst (λ (x : Slot). HeldBy hs id x.what) e (known.by id l) in
-      let above = f.1.1.0 in
-      ap (λ (x : Head). lives_in s hs x.number) a
-      ∙ led id r q (holds k p (Some q)) l e d.1.0 (omega (arith, above)) f.1.1.1 (or_right (eqb p q) _ (and_from (second_lives k) (eqb q q) u (eq-eqb q q refl))) v
+    second_so : (t id r p : ℕ) (k : Holder) (o : Option ℕ) (g : Head) (second : Entries) → id < length s.slots → slot_at s id ≡ record { home = r; what = holds k p o } → g ≡ other_head s o → second ≡ second_of (entries_at s) o
+        → has t second ≡ true → second_lives k ≡ true → P r → P g.number
+    second_so t id r p k None g second l e a b h u v = absurd (both_ways (has t second) (ap (has t) b) h)
+    second_so t id r p k (Some q) g second l e a b h u v =
+        let f = subst (λ (x : Slot). WhatFits s x.home id x.what) e (sound.items id l).1 in
+        let d = subst (λ (x : Slot). HeldBy hs id x.what) e (known.by id l) in
+        let above = f.1.1.0 in
+        subst (λ (x : Head). P x.number) (sym a) (held id r q (holds k p (Some q)) l e d.1.0 (omega (arith, above)) f.1.1.1 (or_right (eqb p q) _ (and_from (second_lives k) (eqb q q) u (eq-eqb q q refl))) v)
 
-  pub shown_lives : (t r : ℕ) (es : Entries) → AreShown s r es → lives_in s hs r ≡ true → has t es ≡ true → lives_in s hs (slot_at s t).home ≡ true
-  shown_lives t r none a l h = absurd (false≢true h)
-  shown_lives t r (leaf id f rest) a l h = elim (cases_Bool (eqb id t)) [
-    | inl e ↦ ap (λ n. lives_in s hs (slot_at s n).home) (sym (eqb-true id t e)) ∙ (ap (λ (x : Slot). lives_in s hs x.home) a.1 ∙ l)
-    | inr e ↦ shown_lives t r rest a.2 l (rw e at h)
-  ]
-  shown_lives t r (node id k hd held g second rest) a l h = elim (cases_Bool (eqb id t)) [
-    | inl e ↦ ap (λ n. lives_in s hs (slot_at s n).home) (sym (eqb-true id t e)) ∙ (ap (λ (x : Slot). lives_in s hs x.home) a.2 ∙ l)
-    | inr e ↦ elim (cases_Bool (second_lives k && has t second)) [
-      | inl b ↦ (let p = both_so (second_lives k) (has t second) b in shown_lives t g.number second a.8 (second_lives_too t id r hd.number k a.1 g second a.0 a.2 a.5 a.6 p.1 p.0 l) p.1)
-      | inr b ↦ elim (cases_Bool (has t held)) [
-        | inl d ↦ shown_lives t hd.number held a.7 (first_lives id r hd.number k a.1 a.0 a.2 l) d
-        | inr d ↦ shown_lives t r rest a.9 l (rw (e, b, d) at h)
+    stands : (t id r : ℕ) (w : What) → eqb id t ≡ true → slot_at s id ≡ record { home = r; what = w } → P r → P (slot_at s t).home
+    stands t id r w e is l = subst (λ n. P (slot_at s n).home) (eqb-true id t e) (subst (λ (x : Slot). P x.home) (sym is) l)
+
+    pub shown_so : (t r : ℕ) (es : Entries) → AreShown s r es → P r → has t es ≡ true → P (slot_at s t).home
+    shown_so t r none a l h = absurd (false≢true h)
+    shown_so t r (leaf id f rest) a l h = elim (cases_Bool (eqb id t)) [
+      | inl e ↦ stands t id r (bare f) e a.1 l
+      | inr e ↦ shown_so t r rest a.2 l (rw e at h)
+    ]
+    shown_so t r (node id k hd held g second rest) a l h = elim (cases_Bool (eqb id t)) [
+      | inl e ↦ stands t id r (holds k hd.number a.1) e a.2 l
+      | inr e ↦ elim (cases_Bool (second_lives k && has t second)) [
+        | inl b ↦ (let p = both_so (second_lives k) (has t second) b in shown_so t g.number second a.8 (second_so t id r hd.number k a.1 g second a.0 a.2 a.5 a.6 p.1 p.0 l) p.1)
+        | inr b ↦ elim (cases_Bool (has t held)) [
+          | inl d ↦ shown_so t hd.number held a.7 (first_so id r hd.number k a.1 a.0 a.2 l) d
+          | inr d ↦ shown_so t r rest a.9 l (rw (e, b, d) at h)
+        ]
       ]
     ]
-  ]
+
+  pub first_lives : (id r p : ℕ) (k : Holder) (o : Option ℕ) → id < length s.slots → slot_at s id ≡ record { home = r; what = holds k p o } → lives_in s hs r ≡ true → lives_in s hs p ≡ true
+  first_lives = first_so (λ q. lives_in s hs q ≡ true) led
+
+  pub shown_lives : (t r : ℕ) (es : Entries) → AreShown s r es → lives_in s hs r ≡ true → has t es ≡ true → lives_in s hs (slot_at s t).home ≡ true
+  shown_lives = shown_so (λ q. lives_in s hs q ≡ true) led
 
   -- the region of a live item is live
   pub home_lives : (t : ℕ) → has t (entries_at s 0) ≡ true → lives_in s hs (slot_at s t).home ≡ true
