@@ -1,19 +1,21 @@
 -- What is kept of the region at which a try looks.
-use Rattle.std.proofs.Common.{◌≡◌, ℕ, ◌<◌, ◌∙◌, true, length, get_or, refl, ap, sym, subst, arith}
+use Rattle.std.proofs.Common.{◌≡◌, ℕ, ◌+◌, ◌<◌, ◌||◌, ◌&&◌, ◌∙◌, true, length, get_or, refl, ap, sym, subst, arith}
 use Rattle.std.specs.Prelude.{vec_len}
 use Rattle.std.proofs.lemmas.List.{length-map}
-use Rattle.tp_scene.specs.Scene.{has}
+use Rattle.tp_scene.specs.Scene.{Side, has}
 use Rattle.tp_slots.specs.Plain.{What, bare, holds, gone, slot_at, WhatFits}
-use Rattle.tp_slots.specs.Lives.{lives_in}
+use Rattle.tp_slots.specs.Places.{place_outward}
+use Rattle.tp_slots.specs.Flags.{forced_in, sinks_in}
+use Rattle.tp_slots.specs.Lives.{leads_to, lives_in}
 use Rattle.tp_slots.specs.Kept.{IsShaped, IsWellKept}
-use Rattle.tp_slots.specs.Looks.{LooksAreRight, looked_into}
-use Rattle.tp_slots.specs.Read.{slot_of, region_slot_of, slots_of, scene_of, holders_of}
+use Rattle.tp_slots.specs.Looks.{LooksAreRight, looked_at, looked_into}
+use Rattle.tp_slots.specs.Read.{slot_of, region_slot_of, what_of, flag_of, slots_of, scene_of, holders_of}
 use Rattle.tp_slots.specs.declared.scene.Region.{Region}
 use Rattle.tp_slots.specs.declared.scene.Scene.{Scene}
 use Rattle.tp_slots.specs.declared.scene.Slot.{Slot}
 use Rattle.tp_slots.proofs.Changing.{lives_within}
 use Rattle.tp_slots.proofs.Living.{home_lives, first_lives}
-use Rattle.tp_slots.proofs.Seeing.{holder_read, holder_within, home_less}
+use Rattle.tp_slots.proofs.Seeing.{holder_read, holder_within, home_less, next_depth, next_lives, next_seen, sees_at, slot_read}
 
 module _ (s : Scene) (t : ℕ) (kept : IsWellKept s) (lives : has t (scene_of s).root.entries ≡ true) where
   within : t < length (slots_of s).slots
@@ -37,11 +39,15 @@ module _ (s : Scene) (t : ℕ) (kept : IsWellKept s) (lives : has t (scene_of s)
         first_lives (slots_of s) (holders_of s) kept.shape.ordered kept.shape.held t (slot_at (slots_of s) t).home r k q within (λ i. record { home = (slot_at (slots_of s) t).home; what = is i }) around_lives,
       )
 
-  pub tried_within : looked_into (slot_at (slots_of s) t).home (slot_at (slots_of s) t).what < length s.regions.items
-  tried_within = (tried (slot_at (slots_of s) t).what refl).0
+  module _ (x : Slot) (r : ℕ) (at : x ≡ get_or s.slots.items t x) (is : r ≡ looked_at (slot_of x)) where
+    looked : r ≡ looked_at (slot_at (slots_of s) t)
+    looked = is ∙ ap looked_at (ap slot_of at ∙ slot_read s t x (lives_within s t kept.shape.ordered lives))
 
-  pub tried_lives : lives_in (slots_of s) (holders_of s) (looked_into (slot_at (slots_of s) t).home (slot_at (slots_of s) t).what) ≡ true
-  tried_lives = (tried (slot_at (slots_of s) t).what refl).1
+    pub tried_within : r < length s.regions.items
+    tried_within = subst (λ n. n < length s.regions.items) (sym looked) (tried (slot_at (slots_of s) t).what refl).0
+
+    pub tried_lives : lives_in (slots_of s) (holders_of s) r ≡ true
+    tried_lives = ap (lives_in (slots_of s) (holders_of s)) looked ∙ (tried (slot_at (slots_of s) t).what refl).1
 
 -- The scene with other looks, which are right.
 module _ (s now : Scene) (slots : now.slots ≡ s.slots) (regions : now.regions ≡ s.regions) where
@@ -75,5 +81,15 @@ module _ (s now : Scene) (slots : now.slots ≡ s.slots) (regions : now.regions 
         let n : length now.slots.items ≡ length s.slots.items = λ i. length ((slots i).items) in
         omega (arith, w, h, n)
 
-    pub holder_outward : (y : Slot) → y ≡ get_or now.slots.items x.holder y → y.home < r
-    holder_outward y ey = home_less s shape r l a x y (region_same r x ex) (slot_same x.holder y ey)
+    module _ (y : Slot) (ey : y ≡ get_or now.slots.items x.holder y) where
+      pub holder_outward : y.home < r
+      holder_outward = home_less s shape r l a x y (region_same r x ex) (slot_same x.holder y ey)
+
+      pub outward_lives : lives_in (slots_of s) (holders_of s) r ≡ (leads_to (what_of y.what) r && lives_in (slots_of s) (holders_of s) y.home)
+      outward_lives = next_lives s shape r l a x y (region_same r x ex) (slot_same x.holder y ey)
+
+      pub outward_depth : (place_outward (slots_of s) (holders_of s) r).depth ≡ (place_outward (slots_of s) (holders_of s) y.home).depth + 1
+      outward_depth = next_depth s shape r l a x y (region_same r x ex) (slot_same x.holder y ey)
+
+      pub outward_seen : (kept : IsWellKept s) (z : Side) → sees_at s kept z r ≡ (flag_of z x || (forced_in (what_of y.what) r z || (sinks_in (what_of y.what) r z && sees_at s kept z y.home)))
+      outward_seen = next_seen s shape r l a x y (region_same r x ex) (slot_same x.holder y ey)

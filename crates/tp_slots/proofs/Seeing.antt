@@ -1,8 +1,9 @@
 -- What the walks outward see.
 use Rattle.std.proofs.Common.{◌≡◌, ℕ, zero, suc, ◌+◌, ◌≤◌, ◌<◌, ◌||◌, ◌&&◌, Bool, true, false, eqb, List, [], length, get_or, refl, ap, sym, ◌∙◌, subst, arith, inl, inr}
 use Rattle.std.specs.Prelude.{slice_set}
+use Rattle.std.proofs.Math.Bool.{or_assoc, or_comm}
 use Rattle.std.proofs.lemmas.Bool.{cases_Bool, cases_lt, eqb-true, eqb-false, or_left, and_parts, false_from_ne_true}
-use Rattle.std.proofs.lemmas.List.{get_or-map, get_or-set_same, get_or-set_other, length-map}
+use Rattle.std.proofs.lemmas.List.{get_or-map, get_or_past, get_or-set_same, get_or-set_other, length-map}
 use Rattle.tp_scene.specs.Scene.{Side, Ending, Going, sinks, forced, marked, risen, Place}
 use Rattle.tp_slots.specs.Plain as plain
 use Rattle.tp_slots.specs.Plain.{What, bare, holds, gone, slot_at, head_at, entries_at, IsOrdered}
@@ -20,31 +21,14 @@ use Rattle.tp_slots.specs.declared.scene.Region.{Region}
 
 module _ (s : plain.Slots) (hs : List ℕ) (sound : IsOrdered s) (known : AreHeld s hs) (z : Side) (f : Flags) (right : FlagsAreRight s z f) where
   parts : (a b c d : Bool) → ((a && b) || (c || d)) ≡ (d || (c || (a && b)))
-  parts true true true true = refl
-  parts true true true false = refl
-  parts true true false true = refl
-  parts true true false false = refl
-  parts true false true true = refl
-  parts true false true false = refl
-  parts true false false true = refl
-  parts true false false false = refl
-  parts false b true true = refl
-  parts false b true false = refl
-  parts false b false true = refl
-  parts false b false false = refl
-
-  swap : (a b : Bool) → (a || b) ≡ (b || a)
-  swap true true = refl
-  swap true false = refl
-  swap false true = refl
-  swap false false = refl
+  parts a b c d = or_comm (a && b) (c || d) ∙ (ap (λ x. x || (a && b)) (or_comm c d) ∙ or_assoc d c (a && b))
 
   held_seen : (r : ℕ) (w : What) (p : Place) → r < length s.regions → HoldsByNumber w r → (held_in s r w p).is z ≡ (f r || (forced_in w r z || (sinks_in w r z && p.is z)))
   held_seen r (bare l) p i h = absurd h
   held_seen r (gone by) p i h = absurd h
   held_seen r (holds k q o) p i h = elim (cases_Bool (eqb q r)) [
     | inl c ↦ rw c (parts (sinks k z) (p.is z) (forced k z) (marked z (head_at s r) || risen z (entries_at s r)) ∙ ap (λ b. b || (forced k z || (sinks k z && p.is z))) (sym (right r i)))
-    | inr c ↦ rw c (swap (p.is z) (marked z (head_at s r) || risen z (entries_at s r)) ∙ ap (λ b. b || p.is z) (sym (right r i)))
+    | inr c ↦ rw c (or_comm (p.is z) (marked z (head_at s r) || risen z (entries_at s r)) ∙ ap (λ b. b || p.is z) (sym (right r i)))
   ]
 
   pub root_seen : (place_outward s hs 0).is z ≡ f 0
@@ -65,6 +49,9 @@ module _ (s : Scene) (r : ℕ) (l : r < length s.regions.items) where
 
     pub flag_read : (z : Side) → flag_of z (get_or s.regions.items r d) ≡ flags_in (flags_of z s) r
     flag_read z = sym (get_or-map (flag_of z) s.regions.items r d false l)
+
+pub slot_past : (s : Scene) (t : ℕ) → length s.slots.items ≤ t → slot_at (slots_of s) t ≡ record { home = 0; what = gone [] }
+slot_past s t past = let e = length-map s.slots.items slot_of in get_or_past (slots_of s).slots t (record { home = 0; what = gone [] }) (omega (arith, e, past))
 
 pub slot_read : (s : Scene) (t : ℕ) (d : Slot) → t < length s.slots.items → slot_of (get_or s.slots.items t d) ≡ slot_at (slots_of s) t
 slot_read s t d l = sym (get_or-map slot_of s.slots.items t d (record { home = 0; what = gone [] }) l)

@@ -202,8 +202,7 @@ fn remember_region(scene: &mut Scene, region: u64)
     requires kept { IsWellKept scene.old }
     requires region { region < length scene.old.regions.items }
     requires lives { region_lives scene.old region ≡ true }
-    ensures slots { scene.new.slots ≡ scene.old.slots }
-    ensures regions { scene.new.regions ≡ scene.old.regions }
+    ensures same { IsUnchanged scene.old scene.new }
     ensures kept { IsWellKept scene.new }
 {
     remember_depths(scene, region);

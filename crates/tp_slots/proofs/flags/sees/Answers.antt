@@ -1,11 +1,21 @@
 -- The walk outward tells what the region is.
-use Rattle.std.proofs.Common.{◌<◌, ◌||◌, ◌&&◌, ap, sym, ◌∙◌, arith, rules}
+use Rattle.std.proofs.Common.{◌≡◌, ℕ, ◌<◌, ◌||◌, ◌&&◌, Bool, true, false, length, get_or, ap, sym, ◌∙◌, arith, rules}
 use Rattle.std.proofs.lemmas.Bool.{or_left}
+use Rattle.tp_scene.specs.Scene.{Side}
 use Rattle.tp_decide.specs.Decided.{mark_of}
 use Rattle.tp_slots.specs.Flags.{forced_in, sinks_in}
+use Rattle.tp_slots.specs.Kept.{IsWellKept}
 use Rattle.tp_slots.specs.Read.{flag_of, what_of}
+use Rattle.tp_slots.specs.declared.scene.Scene.{Scene}
+use Rattle.tp_slots.specs.declared.scene.Slot.{Slot}
+use Rattle.tp_slots.specs.declared.scene.Region.{Region}
 use Rattle.tp_slots.proofs.Seeing.{flag_read, holder_read, holder_within, home_less, next_seen, sees_at, sees_set}
 use Rattle.tp_slots.proofs.flags.sees.Goals as goal
+
+-- What a region sees that isn't so and is not forced, by whether it sinks.
+by_sinks : (s : Scene) (kept : IsWellKept s) (z : Side) (r : ℕ) → r < length s.regions.items → 0 < r → (x : Region) (y : Slot) → x ≡ get_or s.regions.items r x → y ≡ get_or s.slots.items x.holder y
+    → (b : Bool) → flag_of z x ≡ false → forced_in (what_of y.what) r z ≡ false → sinks_in (what_of y.what) r z ≡ b → sees_at s kept z r ≡ (b && sees_at s kept z y.home)
+by_sinks s kept z r l a x y ex ey b f g k = next_seen s kept.shape r l a x y ex ey kept z ∙ (λ i. f i || (g i || (k i && sees_at s kept z y.home)))
 
 pub returns-then-is_so : goal.returns-then-is_so
 returns-then-is_so c =
@@ -31,13 +41,9 @@ returns-then-forces c =
 
 pub returns-then-not-sinks : goal.returns-then-not-sinks
 returns-then-not-sinks c =
-    let a : 0 < c.outward.at = search rules in
-    let z = mark_of c.args.side in
-    let n = next_seen c.args.scene.now c.requires.kept.shape c.outward.at c.outward.invariant.0 a c.index-here.result.now c.index-slot.result.now c.index-here.ensures c.index-slot.ensures c.requires.kept z in
-    let f = sym c.is_so.ensures ∙ c.if-is_so.false in
-    let g = sym c.forces.ensures ∙ c.if-forces.false in
-    let k = sym c.sinks.ensures ∙ c.if-not-sinks.true in
-    sym (n ∙ (λ i. f i || (g i || (k i && sees_at c.args.scene.now c.requires.kept z c.index-slot.result.now.home)))) ∙ c.outward.invariant.1
+    sym (by_sinks c.args.scene.now c.requires.kept (mark_of c.args.side) c.outward.at c.outward.invariant.0 (search rules) c.index-here.result.now c.index-slot.result.now c.index-here.ensures c.index-slot.ensures
+    false (sym c.is_so.ensures ∙ c.if-is_so.false) (sym c.forces.ensures ∙ c.if-forces.false) (sym c.sinks.ensures ∙ c.if-not-sinks.true))
+    ∙ c.outward.invariant.1
 
 less : (c : goal.Else-not-sinks) → c.index-slot.result.now.home < c.outward.at
 less c =
@@ -49,12 +55,10 @@ outward-smaller c = less c
 
 pub outward-preserved : goal.outward-preserved
 outward-preserved c =
-    let a : 0 < c.outward.at = search rules in
-    let z = mark_of c.args.side in
-    let n = next_seen c.args.scene.now c.requires.kept.shape c.outward.at c.outward.invariant.0 a c.index-here.result.now c.index-slot.result.now c.index-here.ensures c.index-slot.ensures c.requires.kept z in
-    let f = sym c.is_so.ensures ∙ c.if-is_so.false in
-    let g = sym c.forces.ensures ∙ c.if-forces.false in
-    let k = sym c.sinks.ensures ∙ c.if-not-sinks.false in
     let u = less c in
-    let i = c.outward.invariant.0 in
-    (omega (arith, u, i), sym (n ∙ (λ i. f i || (g i || (k i && sees_at c.args.scene.now c.requires.kept z c.index-slot.result.now.home)))) ∙ c.outward.invariant.1)
+    let i = c.outward.invariant.0 in (
+      omega (arith, u, i),
+      sym (by_sinks c.args.scene.now c.requires.kept (mark_of c.args.side) c.outward.at i (search rules) c.index-here.result.now c.index-slot.result.now c.index-here.ensures c.index-slot.ensures
+          true (sym c.is_so.ensures ∙ c.if-is_so.false) (sym c.forces.ensures ∙ c.if-forces.false) (sym c.sinks.ensures ∙ c.if-not-sinks.false))
+          ∙ c.outward.invariant.1,
+    )

@@ -1,21 +1,15 @@
 -- By what stands in the slot.
-use Rattle.std.proofs.Common.{◌≤◌, ◌<◌, ◌++◌, [], map, length, ap, sym, ◌∙◌, arith, rules}
-use Rattle.std.proofs.lemmas.List.{length-map, get_or_past, append-nil}
+use Rattle.std.proofs.Common.{◌<◌, ◌++◌, map, length, ap, sym, ◌∙◌, rules}
+use Rattle.std.proofs.lemmas.List.{append-nil}
 use Rattle.tp_decide.specs.Read.{values_of}
 use Rattle.tp_slots.specs.Plain as plain
-use Rattle.tp_slots.specs.Plain.{slot_at}
 use Rattle.tp_slots.specs.Settled.{what_shows}
-use Rattle.tp_slots.specs.Read.{slot_of, slots_of}
-use Rattle.tp_slots.proofs.Seeing.{slot_read}
+use Rattle.tp_slots.specs.Read.{slot_of}
+use Rattle.tp_slots.proofs.Seeing.{slot_past, slot_read}
 use Rattle.tp_slots.proofs.values.add_shown_at.Goals as goal
 
 pub returns-then-item-len : goal.returns-then-item-len
-returns-then-item-len c =
-    let s = c.args.scene.now in
-    let past : length s.slots.items ≤ c.args.item = search rules in
-    let e = length-map s.slots.items slot_of in
-    let at = get_or_past (slots_of s).slots c.args.item (record { home = 0; what = plain.gone [] }) (omega (arith, e, past)) in
-    sym (ap (λ (x : plain.Slot). map values_of c.args.all.now.items ++ what_shows x.what) at ∙ append-nil (map values_of c.args.all.now.items))
+returns-then-item-len c = sym (ap (λ (x : plain.Slot). map values_of c.args.all.now.items ++ what_shows x.what) (slot_past c.args.scene.now c.args.item (search rules)) ∙ append-nil (map values_of c.args.all.now.items))
 
 pub returns : goal.returns
 returns c =
