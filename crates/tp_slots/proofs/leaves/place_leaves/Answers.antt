@@ -16,6 +16,7 @@ use Rattle.tp_slots.specs.Reductions.{becomes_leaves}
 use Rattle.tp_slots.specs.Threads.{afters_then}
 use Rattle.tp_slots.proofs.Changing.{leaves_flags, leaves_home, leaves_live, leaves_looks, leaves_quiet, leaves_scene, leaves_shape, leaves_threads}
 use Rattle.tp_slots.proofs.Newly.{leaves_bare, leaves_news}
+use Rattle.tp_slots.proofs.leaves.place_leaves.Goals.{After-commit_leaves-home}
 use Rattle.tp_slots.proofs.leaves.place_leaves.Goals as goal
 
 pub raise_mark-requires : goal.raise_mark-requires
@@ -39,22 +40,21 @@ raise_mark-requires c =
       looks = leaves_looks s t mark leaves k.kept k.lives k.free bare next put.slots put.holders put.ends put.goes put.looks;
     }
 
+scene_put : (c : After-commit_leaves-home) → scene_of c.commit_leaves-home.new.scene ≡ scene_after c.args.item (becomes_leaves (scene_of c.args.scene.now) (bare_leaves c.args.leaves.items) (option_map mark_of c.args.mark)) (scene_of c.args.scene.now)
+scene_put c =
+    let put = c.commit_leaves-home.ensures in
+    leaves_scene c.args.scene.now c.args.item (option_map mark_of c.args.mark) (bare_leaves c.args.leaves.items) c.requires.kept c.requires.lives c.requires.free (leaves_bare c.args.leaves.items) c.commit_leaves-home.new.scene put.slots put.holders put.ends put.goes
+
 pub returns : goal.returns
 returns c =
     let s = c.args.scene.now in
-    let t = c.args.item in
-    let k = c.requires in
     let mark = option_map mark_of c.args.mark in
     let leaves = bare_leaves c.args.leaves.items in
-    let bare = leaves_bare c.args.leaves.items in
-    let next = c.commit_leaves-home.new.scene in
-    let put = c.commit_leaves-home.ensures in
-    let scene : scene_of c.raise_mark.new.scene ≡ scene_after t (becomes_leaves (scene_of s) leaves mark) (scene_of s) =
-    ap scene_in c.raise_mark.ensures.slots ∙ leaves_scene s t mark leaves k.kept k.lives k.free bare next put.slots put.holders put.ends put.goes in
+    let scene : scene_of c.raise_mark.new.scene ≡ scene_after c.args.item (becomes_leaves (scene_of s) leaves mark) (scene_of s) = ap scene_in c.raise_mark.ensures.slots ∙ scene_put (goal.at.returns c).After-commit_leaves-home in
     let first = length-map s.slots.items slot_of in
     let count = length-map c.args.leaves.items (λ (l : Leaf). plain.bare (plain_leaf l)) in
     record {
       kept = c.raise_mark.ensures.kept;
       scene = scene;
-      news = ap (new_items (scene_of s)) scene ∙ leaves_news s t k.kept k.lives leaves mark ∙ (λ i. range_with_len (first i) (count i));
+      news = ap (new_items (scene_of s)) scene ∙ leaves_news s c.args.item c.requires.kept c.requires.lives leaves mark ∙ (λ i. range_with_len (first i) (count i));
     }
