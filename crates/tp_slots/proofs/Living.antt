@@ -1,6 +1,6 @@
 -- Which items are live, and that a step lets none fall asleep.
-use Rattle.std.proofs.Common.{◌≡◌, ℕ, zero, suc, ◌≤◌, ◌<◌, ◌&&◌, ◌||◌, true, false, eqb, List, [], length, Option, Some, None, refl, ap, sym, ◌∙◌, subst, arith, inl, inr}
-use Rattle.std.proofs.lemmas.Bool.{cases_Bool, cases_eq, cases_lt, eqb-true, eq-eqb, ne_eqb, both_ways, or_cases, or_left, or_right, and_parts, and_from, false≢true, false_from_ne_true}
+use Rattle.std.proofs.Common.{◌≡◌, ℕ, zero, suc, ◌<◌, ◌&&◌, ◌||◌, true, false, eqb, List, [], length, Option, Some, None, refl, ap, sym, ◌∙◌, subst, arith, inl, inr}
+use Rattle.std.proofs.lemmas.Bool.{cases_Bool, cases_eq, cases_lt, eqb-true, eq-eqb, both_ways, or_cases, or_left, or_right, and_parts, and_from, false≢true, false_from_ne_true}
 use Rattle.std.proofs.lemmas.List.{get_or_past}
 use Rattle.tp_scene.specs.Scene.{Head, Holder, Entries, none, leaf, node, has, second_lives}
 use Rattle.tp_slots.specs.Plain.{What, bare, holds, gone, Slot, Slots, slot_at, other_head, second_of, entries_at, IsLive, WhatFits, IsOrdered}
@@ -11,7 +11,7 @@ use Rattle.tp_slots.specs.Flags.{Flags, set_flag}
 use Rattle.tp_slots.specs.Kept.{IsQuiet}
 use Rattle.tp_slots.proofs.PutEdits.{both_so}
 use Rattle.tp_slots.proofs.Showing.{all_shown, has_shown}
-use Rattle.tp_slots.proofs.PlaceLemmas.{outer_less}
+use Rattle.tp_slots.proofs.PlaceLemmas.{no_zero, one_outward, outer_less}
 
 own_has : (t : ℕ) (es : Entries) → has_own t es ≡ true → has t es ≡ true
 own_has t none e = e
@@ -43,30 +43,13 @@ second_is : (o : Option ℕ) (r : ℕ) → is_second o r ≡ true → o ≡ Some
 second_is None r e = absurd (false≢true e)
 second_is (Some p) r e = ap Some (eqb-true p r e)
 
-no_zero : (n : ℕ) → eqb (suc n) 0 ≡ false
-no_zero n = ne_eqb (suc n) 0 (λ e. omega (arith, e))
-
 module _ (s : Slots) (hs : List ℕ) (sound : IsOrdered s) (known : AreHeld s hs) where
-  enough : (n m r : ℕ) → r ≤ n → r ≤ m → r < length s.regions → lives_up s hs n r ≡ lives_up s hs m r
-  enough zero zero r a b l = refl
-  enough zero (suc m) r a b l = let e = eq-eqb r 0 (omega (arith, a)) in rw e refl
-  enough (suc n) zero r a b l = let e = eq-eqb r 0 (omega (arith, b)) in rw e refl
-  enough (suc n) (suc m) r a b l = elim (cases_Bool (eqb r 0)) [
-    | inl e ↦ rw e refl
-    | inr e ↦ (let h = outer_less s hs sound known r (positive r e) l in
-        ap (λ x. eqb r 0 || (leads_to (slot_at s (holder_at hs r)).what r && x)) (enough n m (slot_at s (holder_at hs r)).home (omega (arith, h, a)) (omega (arith, h, b)) (omega (arith, h, l))))
-  ]
-    where
-      positive : (r : ℕ) → eqb r 0 ≡ false → 0 < r
-      positive zero e = absurd (false≢true (sym e))
-      positive (suc r) e = omega arith
+  lives_begins : (n : ℕ) → lives_up s hs n 0 ≡ true
+  lives_begins zero = refl
+  lives_begins (suc n) = refl
 
   pub lives_outward : (r : ℕ) → 0 < r → r < length s.regions → lives_in s hs r ≡ (leads_to (slot_at s (holder_at hs r)).what r && lives_in s hs (slot_at s (holder_at hs r)).home)
-  lives_outward zero a l = absurd (omega (arith, a))
-  lives_outward (suc n) a l =
-      let h = outer_less s hs sound known (suc n) a l in
-      let z = no_zero n in
-      rw z (ap (λ x. leads_to (slot_at s (holder_at hs (suc n))).what (suc n) && x) (enough n (slot_at s (holder_at hs (suc n))).home (slot_at s (holder_at hs (suc n))).home (omega (arith, h)) (omega arith) (omega (arith, h, l))))
+  lives_outward = one_outward s hs sound known (lives_up s hs) true (λ r x. leads_to (slot_at s (holder_at hs r)).what r && x) lives_begins (λ n r a. let z = no_zero r a in rw z refl)
 
   -- a region that a live item leads to
   pub led : (id r p : ℕ) (w : What) → id < length s.slots → slot_at s id ≡ record { home = r; what = w } → holder_at hs p ≡ id → 0 < p → p < length s.regions → leads_to w p ≡ true → lives_in s hs r ≡ true → lives_in s hs p ≡ true

@@ -1,6 +1,6 @@
 -- The place of an item is that of its region, seen outward.
-use Rattle.std.proofs.Common.{◌≡◌, ℕ, zero, suc, ◌≤◌, ◌<◌, ◌&&◌, true, false, cond, eqb, List, length, Option, Some, None, refl, ap, sym, ◌∙◌, subst, arith, inl, inr}
-use Rattle.std.proofs.lemmas.Bool.{cases_Bool, eqb-true, eq-eqb, both_ways}
+use Rattle.std.proofs.Common.{◌≡◌, ℕ, zero, suc, ◌≤◌, ◌<◌, ◌&&◌, true, false, eqb, List, length, Option, Some, None, refl, ap, sym, ◌∙◌, subst, arith, inl, inr}
+use Rattle.std.proofs.lemmas.Bool.{cases_Bool, eqb-true, eq-eqb, ne_eqb, both_ways}
 use Rattle.tp_value.specs.declared.path.Fact.{Fact}
 use Rattle.tp_scene.specs.Scene.{Head, Holder, Entries, none, leaf, node, has, second_lives, root_place, held_place, second_place}
 use Rattle.tp_scene.specs.Step.{Numbers}
@@ -13,11 +13,8 @@ use Rattle.tp_slots.proofs.PutEdits.{both_so}
 use Rattle.tp_slots.proofs.Showing.{all_shown}
 use Rattle.tp_slots.proofs.Picking.{pick_shown}
 
-above_zero : (n : ℕ) → eqb (suc n) 0 ≡ false
-above_zero n = elim (cases_Bool (eqb (suc n) 0)) [
-  | inl e ↦ absurd (let q = eqb-true (suc n) 0 e in omega (arith, q))
-  | inr e ↦ e
-]
+pub no_zero : (r : ℕ) → 0 < r → eqb r 0 ≡ false
+no_zero r a = ne_eqb r 0 (λ e. omega (arith, a, e))
 
 module _ (s : Slots) (hs : List ℕ) (sound : IsOrdered s) (known : AreHeld s hs) where
   below : (w : What) (home h r : ℕ) → WhatFits s home h w → HoldsByNumber w r → home < r
@@ -39,23 +36,33 @@ module _ (s : Slots) (hs : List ℕ) (sound : IsOrdered s) (known : AreHeld s hs
   pub outer_less : (r : ℕ) → 0 < r → r < length s.regions → (slot_at s (holder_at hs r)).home < r
   outer_less r a l = let h = known.holders r a l in below (slot_at s (holder_at hs r)).what (slot_at s (holder_at hs r)).home (holder_at hs r) r (sound.items (holder_at hs r) h.0).1 h.1
 
-  enough : (n m r : ℕ) → r ≤ n → r ≤ m → r < length s.regions → place_up s hs n r ≡ place_up s hs m r
-  enough zero zero r a b l = refl
-  enough zero (suc m) r a b l = let e = eq-eqb r 0 (omega (arith, a)) in rw e refl
-  enough (suc n) zero r a b l = let e = eq-eqb r 0 (omega (arith, b)) in rw e refl
-  enough (suc n) (suc m) r a b l = elim (cases_Bool (eqb r 0)) [
-    | inl e ↦ rw e refl
-    | inr e ↦ (let h = outer_less r (positive r e) l in
-        ap (λ p. cond (eqb r 0) (root_place (scene_in s).root) (held_in s r (slot_at s (holder_at hs r)).what p)) (enough n m (slot_at s (holder_at hs r)).home (omega (arith, h, a)) (omega (arith, h, b)) (omega (arith, h, l))))
-  ]
-    where
-      positive : (r : ℕ) → eqb r 0 ≡ false → 0 < r
-      positive zero e = absurd (both_ways true e refl)
-      positive (suc r) e = omega arith
+  -- What is read from the root on to a region, by what holds each: as far as so many regions, which come to the root.
+  module _ {A : Type 0} (up : ℕ → ℕ → A) (root : A) (step : ℕ → A → A) (begins : (n : ℕ) → up n 0 ≡ root) (goes_on : (n r : ℕ) → 0 < r → up (suc n) r ≡ step r (up n (slot_at s (holder_at hs r)).home)) where
+    enough : (n m r : ℕ) → r ≤ n → r ≤ m → r < length s.regions → up n r ≡ up m r
+    enough n m zero a b l = begins n ∙ sym (begins m)
+    enough zero m (suc r) a b l = absurd (omega (arith, a))
+    enough (suc n) zero (suc r) a b l = absurd (omega (arith, b))
+    enough (suc n) (suc m) (suc r) a b l =
+        let above : 0 < suc r = omega arith in
+        let h = outer_less (suc r) above l in
+        goes_on n (suc r) above
+        ∙ (ap (step (suc r)) (enough n m (slot_at s (holder_at hs (suc r))).home (omega (arith, h, a)) (omega (arith, h, b)) (omega (arith, h, l)))
+        ∙ sym (goes_on m (suc r) above))
+
+    pub one_outward : (r : ℕ) → 0 < r → r < length s.regions → up r r ≡ step r (up (slot_at s (holder_at hs r)).home (slot_at s (holder_at hs r)).home)
+    one_outward zero a l = absurd (omega (arith, a))
+    one_outward (suc n) a l =
+        let h = outer_less (suc n) a l in
+        goes_on n (suc n) a ∙ ap (step (suc n)) (enough n (slot_at s (holder_at hs (suc n))).home (slot_at s (holder_at hs (suc n))).home (omega (arith, h)) (omega arith) (omega (arith, h, l)))
+
+  place_begins : (n : ℕ) → place_up s hs n 0 ≡ root_place (scene_in s).root
+  place_begins zero = refl
+  place_begins (suc n) = refl
 
   pub outward : (r : ℕ) → 0 < r → r < length s.regions → place_outward s hs r ≡ held_in s r (slot_at s (holder_at hs r)).what (place_outward s hs (slot_at s (holder_at hs r)).home)
-  outward zero a l = absurd (omega (arith, a))
-  outward (suc n) a l = let h = outer_less (suc n) a l in let z = above_zero n in rw z (ap (held_in s (suc n) (slot_at s (holder_at hs (suc n))).what) (enough n (slot_at s (holder_at hs (suc n))).home (slot_at s (holder_at hs (suc n))).home (omega (arith, h)) (omega arith) (omega (arith, h, l))))
+  outward =
+      one_outward (place_up s hs) (root_place (scene_in s).root) (λ r. held_in s r (slot_at s (holder_at hs r)).what) place_begins
+      (λ n r a. let z = no_zero r a in rw z refl)
 
   -- the place of a region that is held, and of a second one
   pub held_is : (id r q : ℕ) (k : Holder) (o : Option ℕ) → id < length s.slots → slot_at s id ≡ record { home = r; what = holds k q o } → place_outward s hs q ≡ held_place k (head_at s q) (entries_at s q) (place_outward s hs r)
