@@ -1,5 +1,5 @@
 -- Lists of slots and of regions, as the code has them.
-use Rattle.std.proofs.Common.{◌≡◌, ℕ, zero, suc, ◌+◌, ◌<◌, false, List, [], ◌∷◌, ◌++◌, map, length, get_or, Option, None, refl, ap, sym, ◌∙◌, subst, arith}
+use Rattle.std.proofs.Common.{◌≡◌, ℕ, zero, suc, ◌+◌, ◌-◌, ◌≤◌, ◌<◌, false, List, [], ◌∷◌, ◌++◌, map, length, get_or, Option, None, refl, ap, sym, ◌∙◌, subst, arith}
 use Rattle.std.specs.Prelude.{slice_set}
 use Rattle.std.specs.List.{range_with_len}
 use Rattle.std.proofs.lemmas.List.{append_assoc, map-set, map-append, get_or-map, set-get_or}
@@ -100,3 +100,15 @@ all_below c (plain.gone by ∷ ws) outs a b = absurd a.0
 pub begun_count : (n m c : ℕ) → length (begun n c) ≡ length (begun m c)
 begun_count n m zero = refl
 begun_count n m (suc c) = refl
+
+-- Where each list goes before the one that is added first, the numbers before those of a range are added after them.
+pub range_before : {A : Type 0} (back : List ℕ → List A) (one : ℕ → A) → ((x : ℕ) (xs : List ℕ) → back (x ∷ xs) ≡ back xs ++ one x ∷ []) → (before : List A) (first count left : ℕ) → 0 < left → left ≤ count
+    → (before ++ back (range_with_len (first + left) (count - left))) ++ one (first + (left - 1)) ∷ [] ≡ before ++ back (range_with_len (first + (left - 1)) (count - (left - 1)))
+range_before back one is before first count left a i =
+    let k = left - 1 in
+    let n : count - k ≡ suc (count - left) = omega (arith, i, a) in
+    let m : first + left ≡ first + k + 1 = omega (arith, a) in
+    append_assoc before (back (range_with_len (first + left) (count - left))) (one (first + k) ∷ [])
+    ∙ (ap (λ j. before ++ (back (range_with_len j (count - left)) ++ one (first + k) ∷ [])) m
+    ∙ (ap (λ l. before ++ l) (sym (is (first + k) (range_with_len (first + k + 1) (count - left))))
+    ∙ ap (λ j. before ++ back (range_with_len (first + k) j)) (sym n)))

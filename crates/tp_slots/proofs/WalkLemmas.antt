@@ -1,6 +1,7 @@
 -- The tasks of the walk, as the code has them.
-use Rattle.std.proofs.Common.{◌≡◌, ℕ, zero, suc, ◌+◌, ◌≤◌, ◌<◌, false, List, [], ◌∷◌, ◌++◌, length, get_or, Option, ap, sym, ◌∙◌, subst, arith}
+use Rattle.std.proofs.Common.{◌≡◌, ℕ, zero, suc, ◌+◌, ◌≤◌, ◌<◌, ◌^◌, false, List, [], ◌∷◌, ◌++◌, length, get_or, Option, ap, sym, ◌∙◌, subst, arith, inl, inr}
 use Rattle.std.specs.List.{range_with_len}
+use Rattle.std.proofs.lemmas.Bool.{cases_lt}
 use Rattle.std.proofs.lemmas.List.{append_assoc, get_or-map, length-map}
 use Rattle.tp_scene.specs.Scene as S
 use Rattle.tp_scene.specs.LiveItems.{live_items}
@@ -92,3 +93,10 @@ gone_within s t first count w sound a e f l =
     let fits = subst (λ w. WhatFits (slots_of s) (slot_at (slots_of s) t).home t w) (sym e ∙ f) (sound.items t (omega (arith, n, a))).1 in
     let r = range_within (slots_of s) (suc t) (slot_at (slots_of s) t).home first count fits l in
     omega (arith, r, n)
+
+-- So the numbers after the last one fit too.
+pub gone_fits : (s : Scene) (t first count : ℕ) (w : plain.What) → IsOrdered (slots_of s) → t < length s.slots.items → w ≡ (slot_at (slots_of s) t).what → w ≡ plain.gone (range_with_len first count) → length s.slots.items < 2 ^ 63 → first < 2 ^ 64 → first + count < 2 ^ 64
+gone_fits s t first count w sound a e f small fits = elim (cases_lt 0 count) [
+  | inl l ↦ (let b = gone_within s t first count w sound a e f l in omega (arith, b, small))
+  | inr l ↦ omega (arith, l, fits)
+]
