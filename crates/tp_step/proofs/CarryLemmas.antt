@@ -15,10 +15,11 @@ use Rattle.tp_scene.specs.Scene as S
 use Rattle.tp_scene.specs.Pick.{Moment, scene_after, HasAdded}
 use Rattle.tp_scene.specs.Step.{Reduction, PickOutcome, added, reduces}
 use Rattle.tp_decide.specs.declared.decision.Leaf.{Leaf}
-use Rattle.tp_decide.specs.Decided.{adding_items, plain_leaf, news_entries}
+use Rattle.tp_decide.specs.declared.decision.Decision.{Decision}
+use Rattle.tp_decide.specs.Decided.{adding_items, decided_outcome, plain_leaf, news_entries}
 use Rattle.tp_slots.specs.declared.scene.Scene.{Scene}
 use Rattle.tp_slots.specs.Edit.{stands_in}
-use Rattle.tp_slots.specs.Kept.{IsWellKept, Lives}
+use Rattle.tp_slots.specs.Kept.{IsWellKept, Lives, numbers_in}
 use Rattle.tp_slots.specs.News.{bare_leaves}
 use Rattle.tp_slots.specs.Plain.{entries_at}
 use Rattle.tp_slots.specs.Read.{item_home, scene_of, slots_of}
@@ -28,7 +29,7 @@ use Rattle.tp_step.specs.declared.answer.News.{News}
 use Rattle.tp_step.specs.declared.answer.Tried.{Tried}
 use Rattle.tp_step.specs.declared.answer.Tried.TheVariants as tried
 use Rattle.tp_step.specs.Answers.{AreNews, IsClash, moment_of}
-use Rattle.tp_step.specs.Chosen.{AllowsAddition, Carries, CarriesFacts}
+use Rattle.tp_step.specs.Chosen.{AllowsAddition, Carries, CarriesDecision, CarriesFacts}
 
 -- Nothing new is known.
 pub nothing_added : (k : Contents) → NoClash k.facts → HasAdded k [] None k
@@ -54,6 +55,16 @@ carried o room old new k j t r news more lives is scene store are = λ w e. (r, 
 -- It isn't made where none is left.
 pub full : (o : PickOutcome) (room : ℕ) (m : Moment) (t : ℕ) (r : Reduction) → room ≡ 0 → o ≡ reduces r → Carries o room m t m (tried.Over Reductions)
 full o room m t r none is = λ w e. (refl, inr (r, refl, none, e ∙ is))
+
+-- Both of a decision whose reduction doesn't depend on what is known.
+pub full_decision : (d : Decision) (room : ℕ) (s : Scene) (t : ℕ) (r : Reduction) → room ≡ 0 → ((k : Contents) → decided_outcome k.facts (numbers_in k s) d ≡ reduces r) → CarriesDecision d room s s t (tried.Over Reductions)
+full_decision d room s t r none is k apart = full (decided_outcome k.facts (numbers_in k s) d) room (moment_of s k) t r none (is k)
+
+pub carried_decision : (d : Decision) (room : ℕ) (old new : Scene) (t : ℕ) (r : Reduction) (news : News) (a : Tried) → a ≡ tried.Reduced news → 0 < room → Lives old t → ((k : Contents) → decided_outcome k.facts (numbers_in k old) d ≡ reduces r)
+    → scene_of new ≡ scene_after t r (scene_of old) → ((k : Contents) → NoClash k.facts → HasAdded k r.facts r.local k) → AreNews (scene_of old) t r (scene_of new) news → CarriesDecision d room old new t a
+carried_decision d room old new t r news a answer more lives is scene added are =
+    subst (λ (x : Tried). CarriesDecision d room old new t x) (sym answer)
+    (λ k apart. carried (decided_outcome k.facts (numbers_in k old) d) room old new k k t r news more lives (is k) scene (added k apart) are)
 
 -- the same mark, on the region where the item stands
 pub mark_there : {A B : Type 0} {a b : ℕ} (f : A → B) (m : Option A) → a ≡ b → option_map (λ z. a) m ≡ option_map (λ z. b) (option_map f m)

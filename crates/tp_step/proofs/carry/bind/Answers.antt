@@ -20,8 +20,6 @@ returns-clause-ok c =
     let old = c.args.scene.now in
     let new = c.become_bound.new.scene in
     let k = c.args.store.now in
-    let j = c.become_bound.new.store in
-    let t = c.args.item in
     let s = scene_of old in
     let name = c.args.local.0 in
     let lasting = c.args.local.1 in
@@ -34,9 +32,9 @@ returns-clause-ok c =
       mark = None;
       facts = [];
     } in
-    let is : scene_of new ≡ scene_after t (make (0 + s.next_item)) s =
-    c.in_ok-items.ensures.scene ∙ ap (λ n. scene_after t (make n) s) (sym (zero-add s.next_item)) in
+    let is : scene_of new ≡ scene_after c.args.item (make (0 + s.next_item)) s =
+    c.in_ok-items.ensures.scene ∙ ap (λ n. scene_after c.args.item (make n) s) (sym (zero-add s.next_item)) in
     let more : 0 < c.args.room = omega (arith, c.if-room-eq0.false) in
     let o = decided_outcome k.facts (numbers_in k old) (decision.Binds name lasting body) in
-    subst (λ (a : Tried). Carries o c.args.room (moment_of old k) t (moment_of new j) a) (sym c.reduced.ensures)
-    (carried o c.args.room old new k j t (make (0 + s.next_item)) _ more c.requires.lives refl is c.in_ok-items.ensures.local (record { items = c.in_ok-items.ensures.news; facts = refl; marked = refl }))
+    subst (λ (a : Tried). Carries o c.args.room (moment_of old k) c.args.item (moment_of new c.become_bound.new.store) a) (sym c.reduced.ensures)
+    (carried o c.args.room old new k c.become_bound.new.store c.args.item (make (0 + s.next_item)) _ more c.requires.lives refl is c.in_ok-items.ensures.local (record { items = c.in_ok-items.ensures.news; facts = refl; marked = refl }))

@@ -1,29 +1,16 @@
-use Rattle.std.proofs.Common.{◌<◌, refl, arith, sym, subst}
-use Rattle.tp_decide.specs.Decided.{decided_outcome}
+-- An outer region is begun, or no reduction is left.
+use Rattle.std.proofs.Common.{refl, arith}
+use Rattle.tp_decide.specs.declared.decision.Decision.TheVariants as decision
 use Rattle.tp_decide.specs.ReadPhrase.{formula_of, env_of}
-use Rattle.tp_slots.specs.Kept.{numbers_in}
 use Rattle.tp_slots.specs.Read.{scene_of}
 use Rattle.tp_slots.specs.Reductions.{becomes_opened}
-use Rattle.tp_step.specs.declared.answer.Tried.{Tried}
-use Rattle.tp_step.specs.Answers.{moment_of}
-use Rattle.tp_step.specs.Chosen.{CarriesDecision}
-use Rattle.tp_step.proofs.CarryLemmas.{carried, full, nothing_added}
-use Rattle.tp_decide.specs.declared.decision.Decision.TheVariants as decision
+use Rattle.tp_step.proofs.CarryLemmas.{carried_decision, full_decision, nothing_added}
 use Rattle.tp_step.proofs.carry.open.Goals as goal
 
 pub returns-then-room-eq0-clause-ok : goal.returns-then-room-eq0-clause-ok
-returns-then-room-eq0-clause-ok c k apart =
-    let s = c.args.scene.now in
-    full (decided_outcome k.facts (numbers_in k s) (decision.Opens c.args.outer c.args.piece)) c.args.room (moment_of s k) c.args.item
-    (becomes_opened (scene_of s) (formula_of c.args.outer) (env_of c.args.outer) (formula_of c.args.piece) (env_of c.args.piece)) c.if-room-eq0.true refl
+returns-then-room-eq0-clause-ok c = full_decision (decision.Opens c.args.outer c.args.piece) c.args.room c.args.scene.now c.args.item (becomes_opened (scene_of c.args.scene.now) (formula_of c.args.outer) (env_of c.args.outer) (formula_of c.args.piece) (env_of c.args.piece)) c.if-room-eq0.true (λ k. refl)
 
 pub returns-clause-ok : goal.returns-clause-ok
 returns-clause-ok c =
-    let old = c.args.scene.now in
-    let new = c.become_opened.new.scene in
-    let r = becomes_opened (scene_of old) (formula_of c.args.outer) (env_of c.args.outer) (formula_of c.args.piece) (env_of c.args.piece) in
-    let more : 0 < c.args.room = omega (arith, c.if-room-eq0.false) in
-    let d = decision.Opens c.args.outer c.args.piece in
-    subst (λ (a : Tried). CarriesDecision d c.args.room old new c.args.item a) (sym c.reduced.ensures)
-    (λ k apart. carried (decided_outcome k.facts (numbers_in k old) d) c.args.room old new k k c.args.item r _ more c.requires.lives refl c.in_ok-items.ensures.scene (nothing_added k apart)
-    (record { items = c.in_ok-items.ensures.news; facts = refl; marked = refl }))
+    carried_decision (decision.Opens c.args.outer c.args.piece) c.args.room c.args.scene.now c.become_opened.new.scene c.args.item (becomes_opened (scene_of c.args.scene.now) (formula_of c.args.outer) (env_of c.args.outer) (formula_of c.args.piece) (env_of c.args.piece)) _ _ c.reduced.ensures (omega (arith, c.if-room-eq0.false)) c.requires.lives (λ k. refl)
+    c.in_ok-items.ensures.scene nothing_added (record { items = c.in_ok-items.ensures.news; facts = refl; marked = refl })

@@ -21,8 +21,6 @@ returns-in-Ok-clause-ok c =
     let old = c.args.scene.now in
     let new = c.become_sharing.new.scene in
     let k = c.args.store.now in
-    let j = c.become_sharing.new.store in
-    let t = c.args.item in
     let s = scene_of old in
     let ls = c.args.shared.2.items in
     let entries = news_entries ls (λ i. i + s.next_item) 0 in
@@ -30,9 +28,9 @@ returns-in-Ok-clause-ok c =
     let make : S.Entries → ℕ → Reduction = λ es n. record { news = es; items = n; regions = 0; local = None; mark = None; facts = c.in-Ok.new } in
     let r = make entries (length ls) in
     let o = addition k.facts (fact c.args.shared.0 (Items c.args.shared.1) ∷ []) in
-    let is : scene_of new ≡ scene_after t r s = made.scene ∙ ap₂ (λ es n. scene_after t (make es n) s) (leaves_same ls s.next_item 0 s.next_item (sym (zero-add s.next_item))) (length-map ls (λ l. bare (plain_leaf l))) in
+    let is : scene_of new ≡ scene_after c.args.item r s = made.scene ∙ ap₂ (λ es n. scene_after c.args.item (make es n) s) (leaves_same ls s.next_item 0 s.next_item (sym (zero-add s.next_item))) (length-map ls (λ l. bare (plain_leaf l))) in
     let more : 0 < c.args.room = omega (arith, c.if-room-eq0.false) in
-    carried (adding_items entries (length ls) o) c.args.room old new k j t r _ more c.requires.lives (ap (adding_items entries (length ls)) made.facts) is made.added
+    carried (adding_items entries (length ls) o) c.args.room old new k c.become_sharing.new.store c.args.item r _ more c.requires.lives (ap (adding_items entries (length ls)) made.facts) is made.added
     (record { items = made.news; facts = refl; marked = refl })
 
 pub returns-then-room-eq0-clause-ok : goal.returns-then-room-eq0-clause-ok
