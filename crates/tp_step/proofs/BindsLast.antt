@@ -70,19 +70,11 @@ module _ (env : Bindings) where
 
   by_truth : (o : found.Outcome) (f : Bool → PickOutcome) → ((b : Bool) → BindsLast (f b)) → BindsLast (with_truth o f)
   by_truth (found.value (truth b)) f h = h b
-  by_truth (found.value (num n)) f h = tt
-  by_truth (found.value (list ts)) f h = tt
-  by_truth (found.wait p) f h = tt
-  by_truth (found.fault k) f h = tt
-  by_truth (found.over k) f h = tt
+  by_truth o f h = tt
 
   by_number : (o : found.Outcome) (f : ℤ → PickOutcome) → ((n : ℤ) → BindsLast (f n)) → BindsLast (with_number o f)
   by_number (found.value (num n)) f h = h n
-  by_number (found.value (truth b)) f h = tt
-  by_number (found.value (list ts)) f h = tt
-  by_number (found.wait p) f h = tt
-  by_number (found.fault k) f h = tt
-  by_number (found.over k) f h = tt
+  by_number o f h = tt
 
   by_place : (o : PlaceOutcome) (f : BindingTree → PickOutcome) → ((b : BindingTree) → BindsLast (f b)) → BindsLast (with_place o f)
   by_place (found.path p) f h = h (place_binding p)
@@ -114,22 +106,15 @@ module _ (env : Bindings) where
 
     by_equation : (lp : Bool) (lt : Option Target) (lo : found.Outcome) (rp : Bool) (rt : Option Target) (ro : found.Outcome)
         → BindsLast (equate_values facts (record { placed = lp; target = lt; found = lo }) (record { placed = rp; target = rt; found = ro }))
-    by_equation lp lt (found.value u) rp rt (found.value v) = by_meeting lp lt (found.value u) v
-    by_equation lp lt (found.wait p) rp rt (found.value v) = by_meeting lp lt (found.wait p) v
+    by_equation lp lt x rp rt (found.fault k) = tt
+    by_equation lp lt (found.fault j) rp rt y = tt
+    by_equation lp lt (found.wait p) rp rt (found.over k) = by_passing rt p k
+    by_equation lp lt (found.over j) rp rt (found.wait q) = by_passing lt q j
+    by_equation lp lt x rp rt (found.over k) = tt
+    by_equation lp lt (found.over j) rp rt y = tt
+    by_equation lp lt x rp rt (found.value v) = by_meeting lp lt x v
     by_equation lp lt (found.value v) rp rt (found.wait q) = by_meeting rp rt (found.wait q) v
     by_equation lp lt (found.wait p) rp rt (found.wait q) = if_both (rp && not lp) _ _ tt tt
-    by_equation lp lt (found.value u) rp rt (found.fault k) = tt
-    by_equation lp lt (found.value u) rp rt (found.over k) = tt
-    by_equation lp lt (found.wait p) rp rt (found.fault k) = tt
-    by_equation lp lt (found.wait p) rp rt (found.over k) = by_passing rt p k
-    by_equation lp lt (found.fault j) rp rt (found.value v) = tt
-    by_equation lp lt (found.fault j) rp rt (found.wait q) = tt
-    by_equation lp lt (found.fault j) rp rt (found.fault k) = tt
-    by_equation lp lt (found.fault j) rp rt (found.over k) = tt
-    by_equation lp lt (found.over j) rp rt (found.value v) = tt
-    by_equation lp lt (found.over j) rp rt (found.wait q) = by_passing lt q j
-    by_equation lp lt (found.over j) rp rt (found.fault k) = tt
-    by_equation lp lt (found.over j) rp rt (found.over k) = tt
 
     by_sharing : (p q : Path) (sh : Shape) (n : Numbers) (o : Addition) → BindsLast (shares p q sh n o)
     by_sharing p q sh n (adds news) = tt
