@@ -61,8 +61,11 @@ module _ (old : Scene) (e : Extent) (t : ℕ) (y : Slot) (x : Successor) (sound 
   fits : WhatFits (slots_of old) (item_home old t) t (item_what old t)
   fits = let n = length-map old.slots.items slot_of in (sound.items t (omega (arith, n, l))).1
 
-  pub item_same : (home : ℕ) (a b : Scene) → IsSame (slots_of old) e t x (item_what old t) home a b
+  item_same : (home : ℕ) (a b : Scene) → IsSame (slots_of old) e t x (item_what old t) home a b
   item_same home a b = subst (λ z. IsSame (slots_of old) e t z (item_what old t) home a b) (sym (so ∙ ap (successor_in e) what_is)) (same_left (slots_of old) e (item_home old t) t (item_what old t) home a b fits)
 
-  pub item_fits : SuccessorFits (slots_of old) (item_home old t) x
+  item_fits : SuccessorFits (slots_of old) (item_home old t) x
   item_fits = subst (λ z. SuccessorFits (slots_of old) (item_home old t) z) (sym (so ∙ ap (successor_in e) what_is)) (successor_fits (slots_of old) e (item_home old t) t (item_what old t) fits)
+
+  pub item_is_left : (home : ℕ) (a b : Scene) → SuccessorFits (slots_of old) (item_home old t) x × IsSame (slots_of old) e t x (item_what old t) home a b
+  item_is_left home a b = (item_fits, item_same home a b)

@@ -4,11 +4,11 @@ use Rattle.std.specs.Prelude.{slice_set}
 use Rattle.std.proofs.lemmas.List.{take_more}
 use Rattle.std.proofs.Math.Seq.{take-length}
 use Rattle.tp_slots.specs.Plain.{holds, head_at}
-use Rattle.tp_slots.specs.Read.{slot_of, slots_of, item_home}
-use Rattle.tp_step.specs.Successors.{left_by, successor_of, one_holder_of, two_holder_of, inside_ids, region_left, full_regions, refilled, all_items, IsExtended, HasRegion, next_ids, SuccessorFits}
+use Rattle.tp_slots.specs.Read.{slot_of, slots_of}
+use Rattle.tp_step.specs.Successors.{left_by, successor_of, one_holder_of, two_holder_of, inside_ids, region_left, full_regions, refilled, all_items, IsExtended, HasRegion, next_ids}
 use Rattle.tp_step.proofs.Carried.{item_carried, region_carried}
 use Rattle.tp_step.proofs.CarriedRegions.{region_filled, one_added, one_id, two_added, two_id}
-use Rattle.tp_step.proofs.Succeeding.{item_same, item_fits}
+use Rattle.tp_step.proofs.Succeeding.{item_is_left}
 use Rattle.tp_slots.proofs.OwnItems.{item_of_region}
 use Rattle.tp_step.proofs.next_scene.+carrying.Goals as goal
 
@@ -64,21 +64,18 @@ carry_second-returns-clause-added t c =
 pub carry_item-returns-in_ok-id-in-One : goal.carry_item-returns-in_ok-id-in-One
 carry_item-returns-in_ok-id-in-One t c =
     let old = c.args.old.now in
-    let so = c.in_ok-next.ensures in
-    let is = ap successor_of c.in-One.is in
     let k = one_holder_of c.in-One.kind in
     let h = head_at (slots_of old) c.in-One.held in
     let fs = region_left old c.args.extent c.in-One.held in
     let a = c.args.new.now in
     let b = c.carry_held.new.new in
     let new = c.push_item-in-One.new.scene in
-    let fits = subst (SuccessorFits (slots_of old) (item_home old c.args.item)) is (item_fits old c.args.extent c.args.item c.index.result.now (successor_of c.in_ok-next.next) c.requires.sound c.requires.item c.index.ensures so) in
-    let same = item_same old c.args.extent c.args.item c.index.result.now _ c.requires.sound c.requires.item c.index.ensures (sym is ∙ so) c.args.home a new in
+    let kept = item_is_left old c.args.extent c.args.item c.index.result.now _ c.requires.sound c.requires.item c.index.ensures (sym (ap successor_of c.in-One.is) ∙ c.in_ok-next.ensures) c.args.home a new in
     let what = c.holding.ensures ∙ ap (λ n. holds k n None) c.in_ok-region-in-One.ensures.number in
     let pushed = c.in_ok-id-in-One.ensures.slots ∙ (λ i. map slot_of b.slots.items ++ record { home = c.args.home; what = what i } ∷ []) in
     record {
-      added = same.added (one_added c.args.home k h fs a b new fits.0 c.in_ok-region-in-One.ensures.added pushed c.in_ok-id-in-One.ensures.regions);
-      number = ap (λ n. n ∷ []) c.in_ok-id-in-One.ensures.number ∙ (one_id c.args.home k h fs a b new fits.0 c.in_ok-region-in-One.ensures.added pushed c.in_ok-id-in-One.ensures.regions ∙ same.ids);
+      added = kept.1.added (one_added c.args.home k h fs a b new kept.0.0 c.in_ok-region-in-One.ensures.added pushed c.in_ok-id-in-One.ensures.regions);
+      number = ap (λ n. n ∷ []) c.in_ok-id-in-One.ensures.number ∙ (one_id c.args.home k h fs a b new kept.0.0 c.in_ok-region-in-One.ensures.added pushed c.in_ok-id-in-One.ensures.regions ∙ kept.1.ids);
       looks = c.in_ok-id-in-One.ensures.looks ∙ c.in_ok-region-in-One.ensures.looks;
       unlinked = λ h. c.in_ok-id-in-One.ensures.unlinked (c.in_ok-region-in-One.ensures.unlinked h);
     }
@@ -86,8 +83,6 @@ carry_item-returns-in_ok-id-in-One t c =
 pub carry_item-returns-in_ok-carry_second-in-Two : goal.carry_item-returns-in_ok-carry_second-in-Two
 carry_item-returns-in_ok-carry_second-in-Two t c =
     let old = c.args.old.now in
-    let so = c.in_ok-next.ensures in
-    let is = ap successor_of c.in-Two.is in
     let k = two_holder_of c.in-Two.kind in
     let h = head_at (slots_of old) c.in-Two.held in
     let g = head_at (slots_of old) c.in-Two.second in
@@ -97,16 +92,15 @@ carry_item-returns-in_ok-carry_second-in-Two t c =
     let b = c.carry_held-in-Two.new.new in
     let d = c.push_item-in-Two.new.scene in
     let new = c.carry_second.new.new in
-    let fits = subst (SuccessorFits (slots_of old) (item_home old c.args.item)) is (item_fits old c.args.extent c.args.item c.index.result.now (successor_of c.in_ok-next.next) c.requires.sound c.requires.item c.index.ensures so) in
-    let same = item_same old c.args.extent c.args.item c.index.result.now _ c.requires.sound c.requires.item c.index.ensures (sym is ∙ so) c.args.home a new in
+    let kept = item_is_left old c.args.extent c.args.item c.index.result.now _ c.requires.sound c.requires.item c.index.ensures (sym (ap successor_of c.in-Two.is) ∙ c.in_ok-next.ensures) c.args.home a new in
     let e = c.in_ok-region-in-Two.ensures.number in
     let outer : c.len-outer.result ≡ length b.regions.items = search rules in
     let what = c.holding_both.ensures ∙ (λ j. holds k (e j) (Some (outer j))) in
     let pushed = c.in_ok-id-in-Two.ensures.slots ∙ (λ i. map slot_of b.slots.items ++ record { home = c.args.home; what = what i } ∷ []) in
     let then = subst (λ n. HasRegion n (inside_ids d gs) gs d new) c.in_ok-id-in-Two.ensures.number c.in_ok-carry_second-in-Two.ensures.added in
     record {
-      added = same.added (two_added c.args.home k h g fs gs a b d new fits.0 c.in_ok-region-in-Two.ensures.added pushed c.in_ok-id-in-Two.ensures.regions then);
-      number = ap (λ n. n ∷ []) c.in_ok-id-in-Two.ensures.number ∙ (two_id c.args.home k h g fs gs a b d new fits.0 c.in_ok-region-in-Two.ensures.added pushed c.in_ok-id-in-Two.ensures.regions then ∙ same.ids);
+      added = kept.1.added (two_added c.args.home k h g fs gs a b d new kept.0.0 c.in_ok-region-in-Two.ensures.added pushed c.in_ok-id-in-Two.ensures.regions then);
+      number = ap (λ n. n ∷ []) c.in_ok-id-in-Two.ensures.number ∙ (two_id c.args.home k h g fs gs a b d new kept.0.0 c.in_ok-region-in-Two.ensures.added pushed c.in_ok-id-in-Two.ensures.regions then ∙ kept.1.ids);
       looks = c.in_ok-carry_second-in-Two.ensures.looks ∙ (c.in_ok-id-in-Two.ensures.looks ∙ c.in_ok-region-in-Two.ensures.looks);
       unlinked = λ h. c.in_ok-carry_second-in-Two.ensures.unlinked (c.in_ok-id-in-Two.ensures.unlinked (c.in_ok-region-in-Two.ensures.unlinked h));
     }
