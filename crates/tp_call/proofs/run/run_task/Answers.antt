@@ -1,5 +1,7 @@
-use Rattle.std.proofs.Common.{ℕ, ◌≤◌, ◌<◌, inr, refl, ◌∙◌, arith}
+use Rattle.std.proofs.Common.{ℕ, ◌≡◌, ◌≤◌, ◌<◌, Option, None, Some, Err, ap, inr, refl, ◌∙◌, arith}
 use Rattle.std.proofs.lemmas.Result.{err_from_is_err_and}
+use Rattle.tp_io.specs.Held.{Rose}
+use Rattle.tp_io.specs.declared.refusal.WriteRefusal.TheVariants.{Failed}
 use Rattle.tp_run.specs.Runs.{standing_place, next_state_of, order_of}
 use Rattle.tp_call.specs.Task.{plan_of}
 use Rattle.tp_call.proofs.RunLemmas.{next_state}
@@ -10,6 +12,11 @@ use Rattle.tp_call.proofs.run.run_task.Goals as goal
 
 up_to : (a b c : ℕ) → a ≤ b → b ≤ c → a ≤ c
 up_to a b c h k = omega arith
+
+-- a count that rose since then has risen since an earlier time, too
+rose_since : (greatest : Option ℕ) (before middle now : ℕ) → before ≤ middle → Rose greatest middle now → Rose greatest before now
+rose_since None before middle now earlier rose = omega (arith, earlier, rose)
+rose_since (Some most) before middle now earlier rose = omega (arith, earlier, rose)
 
 pub loop-picture-init : goal.loop-picture-init
 loop-picture-init g c = record {
@@ -30,6 +37,11 @@ returns-in_err-turn-clause-made g c =
       stopped = c.in_err-turn.ensures.made _ c.loop-picture.invariant.run;
       ended = tt;
     }))
+
+pub returns-in_err-turn-clause-cause : goal.returns-in_err-turn-clause-cause
+returns-in_err-turn-clause-cause g c =
+    let p = err_from_is_err_and c.from_residual-in_err-turn.result c.from_residual-in_err-turn.ensures.1 in
+    rw (p.1, p.2) (λ failed. let is : c.in_err-turn.field-0.0 ≡ Failed = cc (failed) in rose_since _ _ _ _ c.loop-picture.invariant.later (c.in_err-turn.ensures.cause (ap Err is)))
 
 pub returns-in-Some-clause-made : goal.returns-in-Some-clause-made
 returns-in-Some-clause-made g c =
