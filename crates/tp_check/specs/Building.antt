@@ -9,7 +9,7 @@ use Rattle.tp_kernel.specs.declared.formula.Exprs.{Exprs}
 use Rattle.tp_kernel.specs.declared.formula.Formula.{Formula}
 use Rattle.tp_kernel.specs.declared.formula.Formulas.{Formulas}
 use Rattle.tp_kernel.specs.Read.{expr_tree, formula_tree, operator_of}
-use Rattle.tp_meaning.specs.Syntax.{ExprTree, FormulaTree, either, binary, trivial, branch, chop, while, for_from, forall_from, project}
+use Rattle.tp_meaning.specs.Syntax.{ExprTree, FormulaTree, either, binary, trivial, branch, while, for_from, forall_from}
 use Rattle.tp_tree.specs.declared.phrase.Definition.{Definition}
 use Rattle.tp_tree.specs.declared.phrase.Definitions.{Definitions}
 use Rattle.tp_scope.specs.Scope.{Names}
@@ -22,8 +22,6 @@ use Rattle.tp_scope.specs.declared.binders.Binders.{Binders}
 use Rattle.tp_check.specs.declared.definitions.Headings.{Headings}
 use Rattle.tp_check.specs.declared.operation.Operation.{Operation}
 use Rattle.tp_check.specs.declared.operation.Operation.TheVariants.{Either, With}
-use Rattle.tp_check.specs.declared.composition.Composition.{Composition}
-use Rattle.tp_check.specs.declared.composition.Composition.TheVariants.{Chop, Project}
 use Rattle.tp_check.specs.declared.loops.Guard.{Guard}
 use Rattle.tp_check.specs.declared.loops.Guard.TheVariants.{If, While}
 use Rattle.tp_check.specs.declared.loops.Counting.{Counting}
@@ -47,11 +45,6 @@ formulas_seen ws = map formula_seen ws.items.items
 abbrev pub made_by : Operation → ExprTree → ExprTree → ExprTree
 made_by Either = either
 made_by (With o) = binary (operator_of o)
-
--- what a composition makes of two formulas
-abbrev pub composed_by : Composition → FormulaTree → FormulaTree → FormulaTree
-composed_by Chop = chop
-composed_by Project = project
 
 -- what a condition makes of the formula under it
 abbrev pub guarded_by : Guard → ExprTree → FormulaTree → FormulaTree

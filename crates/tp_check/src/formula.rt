@@ -12,7 +12,6 @@ ghost use Rattle.tp_check.specs.Building.{formula_seen, formulas_seen, guarded_b
 ghost use Rattle.tp_check.specs.Positions.{bare_of, expr_of, formula_of, formula_of_kind, formulas_in};
 
 use crate::calls::call;
-use crate::composition::composition_for;
 use crate::expression::{expressions, place, port, shared_expression};
 use crate::hiding::exists_each;
 use crate::loops::{Counting, Guard};
@@ -22,7 +21,7 @@ use std::alloc::Global;
 use std::rc::Rc;
 use tp_kernel::{Formula, Formulas, fin, halt, keep, list, repeat, skip, stable};
 use tp_scope::{Binders, Scope, Visible};
-use tp_tree::{Bare, Form, Phrase, PhraseKind, Phrases};
+use tp_tree::{Bare, Form, Op, Phrase, PhraseKind, Phrases};
 use tp_value::{NoMemory, Text, Texts};
 
 fn bare(alloc: Global, word: Bare) -> Result<Formula, NoMemory>
@@ -45,13 +44,15 @@ pub fn formula(alloc: Global, phrase: &Phrase, names: &Visible) -> Result<Formul
         PhraseKind::And(operands) => Ok(Formula::And(formulas(alloc, operands, names)?)),
         PhraseKind::Truth(true) => Ok(Formula::True),
         PhraseKind::Not(operand) => negation(alloc, phrase, operand, names),
-        PhraseKind::Binary(op, left, right) => {
-            let Some(composition) = composition_for(*op) else {
-                return binary(alloc, phrase, *op, left, right, names);
-            };
+        PhraseKind::Binary(Op::Chop, left, right) => {
             let left = shared_formula(alloc, left, names)?;
-            Ok(composition.make(left, shared_formula(alloc, right, names)?))
+            Ok(Formula::Chop(left, shared_formula(alloc, right, names)?))
         }
+        PhraseKind::Binary(Op::Proj, left, right) => {
+            let left = shared_formula(alloc, left, names)?;
+            Ok(Formula::Proj(left, shared_formula(alloc, right, names)?))
+        }
+        PhraseKind::Binary(op, left, right) => binary(alloc, phrase, *op, left, right, names),
         PhraseKind::Bare(word) => Ok(bare(alloc, *word)?),
         PhraseKind::Next(later) => Ok(Formula::Next(shared_formula(alloc, later, names)?)),
         PhraseKind::Form(form, operands) => form_formula(alloc, phrase.at, *form, operands, names),

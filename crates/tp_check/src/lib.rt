@@ -2,7 +2,6 @@
 #![tactic(auto)]
 
 mod calls;
-mod composition;
 mod definitions;
 mod equation;
 mod expression;

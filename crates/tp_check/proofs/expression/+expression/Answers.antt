@@ -1,4 +1,4 @@
-use Rattle.std.proofs.Common.{rules, refl, ap₂, ◌≡◌, ◌⊎◌, inl, inr, ◌+◌, ◌++◌, ◌∷◌, [], ◌∙◌, ℕ, List, sym, ap, map, Ok}
+use Rattle.std.proofs.Common.{rules, refl, ap₂, ◌≡◌, ◌⊎◌, inl, inr, ◌++◌, ◌∷◌, [], ◌∙◌, ℕ, List, sym, ap, map, Ok}
 use Rattle.std.proofs.lemmas.List.{map-append}
 use Rattle.std.proofs.lemmas.Slice.Zip.{Zip-more, either_empty_from_Zip}
 use Rattle.tp_tree.specs.declared.phrase.Phrases.{out-Phrases}
