@@ -185,52 +185,52 @@ row_put (s ∷ rs) r w = at (beside s rs r w) (order r.first s.first) (λ f. row
 pub opened_none : (rows : List InputRow) (value : Tree) (first : ℕ) → are_rows rows ≡ true → ((j : ℕ) → suc j ≡ first → row_value rows j ≢ Some value) → IsOpened rows value first first rows
 opened_none rows value first e other = record { apart = e; ordered = omega arith; had = λ n x y. absurd (omega arith); gone = λ n x y. absurd (omega arith); stays = λ n x. refl; before = other }
 
-pub opened_by : (rows : List InputRow) (value : Tree) (state first a b : ℕ) (left : List InputRow) → suc state ≡ first → row_value rows first ≡ None → IsTaken rows state value a b left → IsOpened rows value a first left
-opened_by rows value state first a b left next none w = at (place a b first)
+-- nothing is taken at a state that has none, and what is not taken stays
+at_none : (rows left : List InputRow) (value : Tree) (state a b n : ℕ) → IsTaken rows state value a b left → row_value rows n ≡ None → (n < a) ⊎ (b < n)
+at_none rows left value state a b n w none = at (place a b n)
   where
-    at : IsWithin a b first → IsOpened rows value a first left
-    at (inside x y t) = let both : None ≡ Some value = sym none ∙ w.had first x y in absurd cc
-    at (below x t) = let low = w.begins in absurd (omega arith)
-    at (above x t) =
+    at : IsWithin a b n → (n < a) ⊎ (b < n)
+    at (inside x y t) = let both : None ≡ Some value = sym none ∙ w.had n x y in absurd cc
+    at (below x t) = inl x
+    at (above x t) = inr x
+
+taken_there : (rows left : List InputRow) (value : Tree) (state a b n : ℕ) → IsTaken rows state value a b left → a ≤ n → n ≤ b → row_value left n ≡ None
+taken_there rows left value state a b n w x y = w.has n ∙ rw (inside_range a b n x y) refl
+
+stays_beside : (rows left : List InputRow) (value : Tree) (state a b n : ℕ) → IsTaken rows state value a b left → (n < a) ⊎ (b < n) → row_value left n ≡ row_value rows n
+stays_beside rows left value state a b n w (inl p) = w.has n ∙ rw (below_range a b n p) refl
+stays_beside rows left value state a b n w (inr p) = w.has n ∙ rw (above_range a b n p) refl
+
+pub opened_by : (rows : List InputRow) (value : Tree) (state first a b : ℕ) (left : List InputRow) → suc state ≡ first → row_value rows first ≡ None → IsTaken rows state value a b left → IsOpened rows value a first left
+opened_by rows value state first a b left next none w = at (at_none rows left value state a b first w none)
+  where
+    around : (n : ℕ) → b < first → (n < a) ⊎ (first ≤ n) → (n < a) ⊎ (b < n)
+    around n x (inl p) = inl p
+    around n x (inr p) = inr (omega arith)
+
+    at : (first < a) ⊎ (b < first) → IsOpened rows value a first left
+    at (inl x) = let low = w.begins in absurd (omega arith)
+    at (inr x) =
         let low = w.begins in
         let high = w.ends in
-        record {
-          apart = w.apart;
-          ordered = omega arith;
-          had = λ n p q. w.had n p (omega arith);
-          gone = λ n p q. w.has n ∙ rw (inside_range a b n p (omega arith)) refl;
-          stays = λ n p. w.has n ∙ kept n p;
-          before = w.before;
-        }
-      where
-        kept : (n : ℕ) → (n < a) ⊎ (first ≤ n) → cond (nat_le a n && nat_le n b) None (row_value rows n) ≡ row_value rows n
-        kept n (inl p) = rw (below_range a b n p) refl
-        kept n (inr p) = rw (above_range a b n (omega arith)) refl
+        record { apart = w.apart; ordered = omega arith; had = λ n p q. w.had n p (omega arith); gone = λ n p q. taken_there rows left value state a b n w p (omega arith); stays = λ n p. stays_beside rows left value state a b n w (around n x p); before = w.before }
 
 pub closed_none : (rows : List InputRow) (value : Tree) (last : ℕ) → are_rows rows ≡ true → row_value rows (last + 1) ≢ Some value → IsClosed rows value last last rows
 closed_none rows value last e other = record { apart = e; ordered = omega arith; had = λ n x y. absurd (omega arith); gone = λ n x y. absurd (omega arith); stays = λ n x. refl; after = other }
 
 pub closed_by : (rows : List InputRow) (value : Tree) (last a b : ℕ) (left : List InputRow) → row_value rows last ≡ None → IsTaken rows (last + 1) value a b left → IsClosed rows value last b left
-closed_by rows value last a b left none w = at (place a b last)
+closed_by rows value last a b left none w = at (at_none rows left value (last + 1) a b last w none)
   where
-    at : IsWithin a b last → IsClosed rows value last b left
-    at (inside x y t) = let both : None ≡ Some value = sym none ∙ w.had last x y in absurd cc
-    at (above x t) = let high = w.ends in absurd (omega arith)
-    at (below x t) =
+    around : (n : ℕ) → last < a → (n ≤ last) ⊎ (b < n) → (n < a) ⊎ (b < n)
+    around n x (inl p) = inl (omega arith)
+    around n x (inr p) = inr p
+
+    at : (last < a) ⊎ (b < last) → IsClosed rows value last b left
+    at (inl x) =
         let low = w.begins in
         let high = w.ends in
-        record {
-          apart = w.apart;
-          ordered = omega arith;
-          had = λ n p q. w.had n (omega arith) q;
-          gone = λ n p q. w.has n ∙ rw (inside_range a b n (omega arith) q) refl;
-          stays = λ n p. w.has n ∙ kept n p;
-          after = w.after;
-        }
-      where
-        kept : (n : ℕ) → (n ≤ last) ⊎ (b < n) → cond (nat_le a n && nat_le n b) None (row_value rows n) ≡ row_value rows n
-        kept n (inl p) = rw (below_range a b n (omega arith)) refl
-        kept n (inr p) = rw (above_range a b n p) refl
+        record { apart = w.apart; ordered = omega arith; had = λ n p q. w.had n (omega arith) q; gone = λ n p q. taken_there rows left value (last + 1) a b n w (omega arith) q; stays = λ n p. stays_beside rows left value (last + 1) a b n w (around n x p); after = w.after }
+    at (inr x) = let high = w.ends in absurd (omega arith)
 
 pub given_rows : (rows mid left : List InputRow) (value : Tree) (from first last to : ℕ) → IsOpened rows value from first mid → IsClosed mid value last to left → first ≤ last → rows_meet rows first last ≡ false
     → GivesRows first last value rows (with_row (record { first = from; last = to; value = value }) left)
