@@ -84,6 +84,12 @@ pub back : (names xs ys : Names) → AreKnown names (xs ++ ys) → AreKnown name
 back names [] ys known = known
 back names (x ∷ xs) ys known = back names xs ys known.1
 
+-- the names of each of three phrases
+pub each_of_three : (names xs ys zs : Names) → AreKnown names ((xs ++ ys) ++ zs) → AreKnown names xs × AreKnown names ys × AreKnown names zs
+each_of_three names xs ys zs known =
+    let two = front names (xs ++ ys) zs known in
+    (front names xs ys two, back names xs ys two, back names (xs ++ ys) zs known)
+
 -- ---- with more names each phrase becomes the same
 
 abbrev with_more : VisibleNames → Names → VisibleNames
@@ -118,9 +124,9 @@ mutual
       ap₂ (operation_at at (operation_of o)) (expr_same names more l (front names.globals (names_in names.scope l) (names_in names.scope r) known)) (expr_same names more r (back names.globals (names_in names.scope l) (names_in names.scope r) known))
   expr_kind_same names more at (k.conjunction ps) known = ap (mapped (λ es. m.both (exprs_of es))) (exprs_same names more ps known)
   expr_kind_same names more at (k.choice_else b p q) known =
-      let two = front names.globals (names_in names.scope b ++ names_in names.scope p) (names_in names.scope q) known in
-      ap₂ (λ x y. three choice x y (expr_of (with_more names more) q)) (expr_same names more b (front names.globals (names_in names.scope b) (names_in names.scope p) two)) (expr_same names more p (back names.globals (names_in names.scope b) (names_in names.scope p) two))
-      ∙ ap (three choice (expr_of names b) (expr_of names p)) (expr_same names more q (back names.globals (names_in names.scope b ++ names_in names.scope p) (names_in names.scope q) known))
+      let each = each_of_three names.globals (names_in names.scope b) (names_in names.scope p) (names_in names.scope q) known in
+      ap₂ (λ x y. three choice x y (expr_of (with_more names more) q)) (expr_same names more b each.0) (expr_same names more p each.1)
+      ∙ ap (three choice (expr_of names b) (expr_of names p)) (expr_same names more q each.2)
   expr_kind_same names more at (k.call x ps) known =
       called_expr_same at (called_of names.definitions x) (phrase_count ps) (λ xs. arguments_in (with_more names more) ps xs) (λ xs. arguments_in names ps xs) (arguments_same names more ps known)
   expr_kind_same names more at kind known = refl
@@ -218,9 +224,9 @@ mutual
   formula_kind_same names more at (k.choice b w) known =
       ap₂ (both (λ c x. branch c x trivial)) (expr_same names more b (front names.globals (names_in names.scope b) (names_in names.scope w) known)) (formula_same names more w (back names.globals (names_in names.scope b) (names_in names.scope w) known))
   formula_kind_same names more at (k.choice_else b w v) known =
-      let two = front names.globals (names_in names.scope b ++ names_in names.scope w) (names_in names.scope v) known in
-      ap₂ (λ x y. three branch x y (formula_of (with_more names more) v)) (expr_same names more b (front names.globals (names_in names.scope b) (names_in names.scope w) two)) (formula_same names more w (back names.globals (names_in names.scope b) (names_in names.scope w) two))
-      ∙ ap (three branch (expr_of names b) (formula_of names w)) (formula_same names more v (back names.globals (names_in names.scope b ++ names_in names.scope w) (names_in names.scope v) known))
+      let each = each_of_three names.globals (names_in names.scope b) (names_in names.scope w) (names_in names.scope v) known in
+      ap₂ (λ x y. three branch x y (formula_of (with_more names more) v)) (expr_same names more b each.0) (formula_same names more w each.1)
+      ∙ ap (three branch (expr_of names b) (formula_of names w)) (formula_same names more v each.2)
   formula_kind_same names more at (k.while b w) known =
       ap₂ (both while) (expr_same names more b (front names.globals (names_in names.scope b) (names_in names.scope w) known)) (formula_same names more w (back names.globals (names_in names.scope b) (names_in names.scope w) known))
   formula_kind_same names more at (k.repeat w b) known =

@@ -21,7 +21,7 @@ use Rattle.tp_scope.specs.Phrases.{is_place_phrase, is_place_kind, is_port_kind,
 use Rattle.tp_scope.specs.Definitions.{is_state_called}
 use Rattle.tp_check.specs.Positions.{named_expr, operation_of, operation_at, call_refusal, refusal_of, called_expr, expr_of, expr_of_kind, exprs_in, place_phrase, port_phrase, arguments_in, equation_of, is_state_in, place_is, state_in, called_formula, exists_of, formula_of, formula_of_kind, formulas_in}
 use Rattle.tp_check.specs.Refusals.{Position, formula, expression, place, port, Placed, as_formula, as_expression, as_place, as_port, as_formulas, as_expressions, as_arguments, arguments_of, right_side, operands_of_expression, operands_of_formula, operands_by, is_expression_kind, is_run_kind, Breaks, unknown, call_count, form_count, twice, no_expression, no_place, no_port, isnt_run, turn_of, IsFirstBroken}
-use Rattle.tp_check.proofs.Known.{AreKnown, front, back, names_behind}
+use Rattle.tp_check.proofs.Known.{AreKnown, front, back, each_of_three, names_behind}
 use Rattle.tp_check.proofs.Broken.{Told, Keeps, none_there, mapped_told, both_told, three_told, operands_told, told_of_operands, broken_told}
 
 -- ---- the rules of one phrase
@@ -236,11 +236,10 @@ mutual
       (expr_told names l (front names.globals (names_in names.scope l) (names_in names.scope r) known)) (expr_told names r (back names.globals (names_in names.scope l) (names_in names.scope r) known))
   expr_kind_told names at (k.conjunction ps) known = made names expression at (k.conjunction ps) tt refl (expr_of_kind names at (k.conjunction ps)) (mapped_told names.definitions _ (as_expressions ps) (exprs_in names ps) (exprs_told names ps known))
   expr_kind_told names at (k.choice_else b p q) known =
-      let two = front names.globals (names_in names.scope b ++ names_in names.scope p) (names_in names.scope q) known in
+      let each = each_of_three names.globals (names_in names.scope b) (names_in names.scope p) (names_in names.scope q) known in
       made names expression at (k.choice_else b p q) tt refl (expr_of_kind names at (k.choice_else b p q))
       (three_told names.definitions _ (as_expression b) (as_expression p) (as_expression q) (expr_of names b) (expr_of names p) (expr_of names q)
-      (expr_told names b (front names.globals (names_in names.scope b) (names_in names.scope p) two)) (expr_told names p (back names.globals (names_in names.scope b) (names_in names.scope p) two))
-      (expr_told names q (back names.globals (names_in names.scope b ++ names_in names.scope p) (names_in names.scope q) known)))
+      (expr_told names b each.0) (expr_told names p each.1) (expr_told names q each.2))
   expr_kind_told names at (k.call x ps) known = called_expr_told names at x ps (called_of names.definitions x) refl (arguments_told names ps known)
   expr_kind_told names at kind known = refusal_told names expression at kind (NotExpression at) (no_expression at kind refl) refl
 
@@ -437,11 +436,10 @@ mutual
       (both_told names.definitions _ (as_expression b ∷ []) (as_formula w ∷ []) (expr_of names b) (formula_of names w)
       (expr_told names b (front names.globals (names_in names.scope b) (names_in names.scope w) known)) (formula_told names w (back names.globals (names_in names.scope b) (names_in names.scope w) known)))
   formula_kind_told names at (k.choice_else b w v) known =
-      let two = front names.globals (names_in names.scope b ++ names_in names.scope w) (names_in names.scope v) known in
+      let each = each_of_three names.globals (names_in names.scope b) (names_in names.scope w) (names_in names.scope v) known in
       made names formula at (k.choice_else b w v) tt refl (formula_of_kind names at (k.choice_else b w v))
       (three_told names.definitions _ (as_expression b) (as_formula w) (as_formula v) (expr_of names b) (formula_of names w) (formula_of names v)
-      (expr_told names b (front names.globals (names_in names.scope b) (names_in names.scope w) two)) (formula_told names w (back names.globals (names_in names.scope b) (names_in names.scope w) two))
-      (formula_told names v (back names.globals (names_in names.scope b ++ names_in names.scope w) (names_in names.scope v) known)))
+      (expr_told names b each.0) (formula_told names w each.1) (formula_told names v each.2))
   formula_kind_told names at (k.while b w) known =
       made names formula at (k.while b w) tt refl (formula_of_kind names at (k.while b w))
       (both_told names.definitions m.while (as_expression b ∷ []) (as_formula w ∷ []) (expr_of names b) (formula_of names w)
