@@ -85,29 +85,23 @@ module _ (mode : Mode) where
   abbrev second_walk : Walk
   second_walk = record { held = second_held; waiting = idle; position = 2; is_trailing = false; stopped = None }
 
-as_ended : (mode : Mode) (file : List ℕ) → wanted_of_texts (mode_text mode ∷ file ∷ [])
-    ≡ ended mode (walked the_shape.rules [] (second_walk mode) file) (turn_fault the_shape [] (second_walk mode) file)
-unfolding clap_on_literals wanted_of_texts
-as_ended Run file = refl
-as_ended Print file = refl
-as_ended Convert file = refl
-as_ended Check file = refl
-as_ended (Drill size) file = refl
-
-plain_end : (mode : Mode) (file : List ℕ) → ended mode (to_positional the_shape.rules (arg_by_index the_shape.rules 2) file (second_walk mode) (second_held mode))
-    (step_fault the_shape 2 (second_held mode) value) ≡ wanted_of_two mode file
-unfolding clap_on_literals wanted_in
-plain_end Run file = refl
-plain_end Print file = refl
-plain_end Convert file = refl
-plain_end Check file = refl
-plain_end (Drill size) file = refl
+-- of each mode: what is wanted is what a walk over the second word gives, and where that word is no option the walk has ended
+walks : (mode : Mode) (file : List ℕ)
+    → (wanted_of_texts (mode_text mode ∷ file ∷ []) ≡ ended mode (walked the_shape.rules [] (second_walk mode) file) (turn_fault the_shape [] (second_walk mode) file))
+    × (ended mode (to_positional the_shape.rules (arg_by_index the_shape.rules 2) file (second_walk mode) (second_held mode)) (step_fault the_shape 2 (second_held mode) value) ≡ wanted_of_two mode file)
+unfolding clap_on_literals wanted_of_texts wanted_in
+walks Run file = (refl, refl)
+walks Print file = (refl, refl)
+walks Convert file = (refl, refl)
+walks Check file = (refl, refl)
+walks (Drill size) file = (refl, refl)
 
 enough : (mode : Mode) (file : List ℕ) → (slice_index file 0 ≡ 45 → ⊥) → wanted_of_texts (mode_text mode ∷ file ∷ []) ≡ wanted_of_two mode file
 enough mode [] apart = empty_name mode
 enough mode (x ∷ xs) apart =
     let other : nat_eq x 45 ≡ false = not_equal x 45 apart in
-    as_ended mode (x ∷ xs) ∙ ap₂ (ended mode) (moved x xs other the_shape.rules (second_held mode) 2) (turned x xs other the_shape (second_held mode) 2) ∙ plain_end mode (x ∷ xs)
+    let ends = walks mode (x ∷ xs) in
+    ends.0 ∙ ap₂ (ended mode) (moved x xs other the_shape.rules (second_held mode) 2) (turned x xs other the_shape (second_held mode) 2) ∙ ends.1
 
 mode_is_text : (mode : Mode) → is_utf8 (mode_text mode) ≡ true
 unfolding is_utf8 clap_on_literals

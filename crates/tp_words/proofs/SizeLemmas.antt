@@ -7,7 +7,7 @@ use Rattle.tp_words.specs.declared.mode.Mode.{Mode}
 use Rattle.tp_words.specs.declared.mode.Mode.TheVariants.{Run, Print, Convert, Check, Drill}
 use Rattle.tp_words.specs.Mode.{mode_text, mode_named}
 use Rattle.tp_words.specs.Subject.{HasSize}
-use Rattle.tp_words.specs.Size.{size_spelled, greatest_size, size_digits}
+use Rattle.tp_words.specs.Size.{size_spelled, greatest_size}
 use Rattle.tp_words.proofs.NumeralLemmas.{numeral_range}
 
 has_no_size : (mode : Mode) → ((size : ℕ) → mode ≡ Drill size → ⊥) → HasSize mode
@@ -29,7 +29,7 @@ named_size true print convert check drill subject mode e = has_no_size mode (λ 
 named_size false true convert check drill subject mode e = has_no_size mode (λ size is. absurd (cc (e, is)))
 named_size false false true check drill subject mode e = has_no_size mode (λ size is. absurd (cc (e, is)))
 named_size false false false true drill subject mode e = has_no_size mode (λ size is. absurd (cc (e, is)))
-named_size false false false false true subject mode e = drill_size subject (size_spelled subject) mode (numeral_range size_digits greatest_size subject) e
+named_size false false false false true subject mode e = drill_size subject (size_spelled subject) mode (numeral_range 4 greatest_size subject) e
 named_size false false false false false subject mode e = search rules
 
 -- the mode that is named has a size that words can ask for
