@@ -17,7 +17,7 @@ use Rattle.tp_call.specs.declared.status.SourceKind.{SourceKind}
 use Rattle.tp_call.specs.declared.status.Refused.{Refused}
 use Rattle.tp_call.specs.Answer.{refused_status, WhereTold, AsTold, IsAskedFor, HasInputs, HoldsTable, HoldsProgram, HoldsSource, HoldsRefused, IsToPrint, IsToConvert, HoldsWide, HoldsTrace, HasBadTraceLine, HasManyStates, IsAskedToCheck, Spells, Converts, Judges, IsPastLimit, HasBadLine, Serves, ReadsFile, Refuses, RunsTo, CallEnds, Answers, IsOrStopped, IsOrFailed, IsEndOfRun, HasFailed}
 use Rattle.tp_call.specs.Written.{Wrote}
-use Rattle.tp_call.proofs.FileLemmas.{where_told, source_read, source_reader, ReadsInputs, ReadsTable, inputs_read, other_read}
+use Rattle.tp_call.proofs.FileLemmas.{where_told, source_read, source_reader, ReadsSecond, ReadsInputs, ReadsTable, inputs_read, other_read}
 use Rattle.tp_call.proofs.ProgramLemmas.{program_or_refused, source_or_outside, wide_or_refused, refused_once}
 use Rattle.tp_call.proofs.CheckingLemmas.{one_told, not_many}
 use Rattle.tp_call.proofs.TurnLemmas.{ends_run}
@@ -238,7 +238,7 @@ module _ (words : List (List ℕ)) (held : Option Held) (old new : Option (List 
       supplied_there P r = by (inputs_read words (WhereTold held) (λ mode. P) r)
         where
           by : ReadsInputs words (WhereTold held) (λ mode. P) ⊎ ReadsTable words (WhereTold held) (λ mode. P) → P (bytes_of files name)
-          by (inl s) = subst (λ n. P (bytes_of files n)) (same_name s.wanted s.name s.accepted s.named) (s.inputs files told)
+          by (inl s) = subst (λ n. P (bytes_of files n)) (same_name s.wanted s.name s.accepted s.named) (s.has files told)
           by (inr s) = let bad : Run ≡ Convert = sym mode ∙ mode_there s.wanted Convert s.accepted s.mode in absurd (cc)
 
       inputs_of_run : (plan : Plan) → IsAskedFor words held plan → HoldsTable plan.inputs (bytes_of files name)
@@ -260,7 +260,7 @@ module _ (words : List (List ℕ)) (held : Option Held) (old new : Option (List 
       other_there : (P : List ℕ → Type 0) → ReadsFile words (WhereTold held) Other (λ mode. P) → P other
       other_there P r =
           let s = other_read words (WhereTold held) (λ mode. P) r in
-          subst (λ n. P (bytes_of files n)) (same_other s.wanted s.name s.accepted s.named) (s.other files told)
+          subst (λ n. P (bytes_of files n)) (same_other s.wanted s.name s.accepted s.named) (s.has files told)
 
       trace_there : (w : NamedWide) (trace : List (List NamedFact)) → IsAskedToCheck words held w trace → HoldsTrace trace other
       trace_there w trace a = subst (λ n. HoldsTrace trace (bytes_of files n)) (same_other a.wanted a.name a.accepted a.named) (a.other files told)
@@ -326,18 +326,27 @@ module _ (words : List (List ℕ)) (held : Option Held) (old new : Option (List 
       (subst (λ (m : Mode). IsRefusedAt m source (record { line = line; column = column; kind = kind })) mode h.1)))
       (λ e h. absurd (omega (arith, h, short)))
 
-  -- the inputs that are told, of a source that is a program
-  pub record InputsThere (P : List ℕ → Type 0) : Type 0 where
+  -- the file that is told, which this mode reads behind a source that serves it
+  pub record SecondThere (asks : Mode) (second : Wanted → Option (List ℕ)) (P : List ℕ → Type 0) : Type 0 where
     pub files : Held
     pub told : held ≡ Some files
     pub wanted : Wanted
     pub accepted : wanted_of words ≡ Some wanted
-    pub mode : wanted.mode ≡ Run
-    pub program : ProgramTree
-    pub source : HoldsProgram program (bytes_of files wanted.file)
+    pub mode : wanted.mode ≡ asks
+    pub source : Serves asks Source (bytes_of files wanted.file)
     pub name : List ℕ
-    pub named : wanted.inputs ≡ Some name
-    pub inputs : P (bytes_of files name)
+    pub named : second wanted ≡ Some name
+    pub has : P (bytes_of files name)
+
+  second_there : (asks : Mode) (second : Wanted → Option (List ℕ)) (P : List ℕ → Type 0) → ReadsSecond words (AsTold held) (λ mode. P) asks second → SecondThere asks second P
+  second_there asks second P s =
+      let t = s.has in
+      let source = subst (λ (m : Mode). Serves m Source (bytes_of t.0 s.wanted.file)) s.mode (where_told held _ s.source t.0 t.1) in
+      record { files = t.0; told = t.1; wanted = s.wanted; accepted = s.accepted; mode = s.mode; source = source; name = s.name; named = s.named; has = t.2 }
+
+  -- the inputs of a source that is a program
+  abbrev pub InputsThere : (List ℕ → Type 0) → Type 0
+  InputsThere P = SecondThere Run (λ (w : Wanted). w.inputs) P
 
   -- the inputs that are told, which are to be converted
   pub record TableThere (P : List ℕ → Type 0) : Type 0 where
@@ -351,17 +360,11 @@ module _ (words : List (List ℕ)) (held : Option Held) (old new : Option (List 
   of_table : (P : List ℕ → Type 0) → ReadsTable words (AsTold held) (λ mode. P) → TableThere P
   of_table P s = let t = s.inputs in record { files = t.0; told = t.1; wanted = s.wanted; accepted = s.accepted; mode = s.mode; inputs = t.2 }
 
-  of_inputs : (P : List ℕ → Type 0) → ReadsInputs words (AsTold held) (λ mode. P) → InputsThere P
-  of_inputs P s =
-      let t = s.inputs in
-      let served = subst (λ (m : Mode). Serves m Source (bytes_of t.0 s.wanted.file)) s.mode (where_told held _ s.source t.0 t.1) in
-      record { files = t.0; told = t.1; wanted = s.wanted; accepted = s.accepted; mode = s.mode; program = served.0; source = served.1; name = s.name; named = s.named; inputs = t.2 }
-
   inputs_there : (P : List ℕ → Type 0) → ReadsFile words (AsTold held) Inputs (λ mode. P) → InputsThere P ⊎ TableThere P
   inputs_there P r = by (inputs_read words (AsTold held) (λ mode. P) r)
     where
       by : ReadsInputs words (AsTold held) (λ mode. P) ⊎ ReadsTable words (AsTold held) (λ mode. P) → InputsThere P ⊎ TableThere P
-      by (inl s) = inl (of_inputs P s)
+      by (inl s) = inl (second_there Run (λ (w : Wanted). w.inputs) P s)
       by (inr s) = inr (of_table P s)
 
   -- inputs past the limit
@@ -371,37 +374,24 @@ module _ (words : List (List ℕ)) (held : Option Held) (old new : Option (List 
       by_table t.files t.told t.wanted t.accepted t.mode result (IsOrFailed (TooLong Inputs) result) (view result a)
       (λ table h e. absurd (omega (arith, h.0, long))) (λ line e h. absurd (omega (arith, h.0, long))) (λ e h. inl e) inr
   inputs_too_long result a (inl t) =
-      let long = t.inputs in
-      by_program t.files t.told t.wanted t.accepted t.mode t.program t.source result (IsOrFailed (TooLong Inputs) result) (view result a)
+      let long = t.has in
+      by_program t.files t.told t.wanted t.accepted t.mode t.source.0 t.source.1 result (IsOrFailed (TooLong Inputs) result) (view result a)
       (λ end text run. let h = inputs_of_run t.files t.told t.wanted t.accepted t.mode t.name t.named run.plan run.asked in absurd (omega (arith, h.0, long)))
       (λ line e s. let h = supplied_there t.files t.told t.wanted t.accepted t.mode t.name t.named (HasBadLine line) s in absurd (omega (arith, h.0, long)))
       (λ e s. inl e) inr
 
-  -- the other file that is told, of a source that is a wider formula
-  pub record OtherThere (P : List ℕ → Type 0) : Type 0 where
-    pub files : Held
-    pub told : held ≡ Some files
-    pub wanted : Wanted
-    pub accepted : wanted_of words ≡ Some wanted
-    pub mode : wanted.mode ≡ Check
-    pub wide : NamedWide
-    pub source : HoldsWide wide (bytes_of files wanted.file)
-    pub name : List ℕ
-    pub named : wanted.other ≡ Some name
-    pub other : P (bytes_of files name)
+  -- the other file of a source that is a wider formula
+  abbrev pub OtherThere : (List ℕ → Type 0) → Type 0
+  OtherThere P = SecondThere Check (λ (w : Wanted). w.other) P
 
   of_other : (P : List ℕ → Type 0) → ReadsFile words (AsTold held) Other (λ mode. P) → OtherThere P
-  of_other P r =
-      let s = other_read words (AsTold held) (λ mode. P) r in
-      let t = s.other in
-      let served = subst (λ (m : Mode). Serves m Source (bytes_of t.0 s.wanted.file)) s.mode (where_told held _ s.source t.0 t.1) in
-      record { files = t.0; told = t.1; wanted = s.wanted; accepted = s.accepted; mode = s.mode; wide = served.0; source = served.1; name = s.name; named = s.named; other = t.2 }
+  of_other P r = second_there Check (λ (w : Wanted). w.other) P (other_read words (AsTold held) (λ mode. P) r)
 
   -- another file past the limit
   other_too_long : (result : Status) → Answers words held old new result → OtherThere (IsPastLimit Other) → IsOrFailed (TooLong Other) result
   other_too_long result a t =
-      let long = t.other in
-      by_other t.files t.told t.wanted t.accepted t.mode t.wide t.source t.name t.named result (IsOrFailed (TooLong Other) result) (view result a)
+      let long = t.has in
+      by_other t.files t.told t.wanted t.accepted t.mode t.source.0 t.source.1 t.name t.named result (IsOrFailed (TooLong Other) result) (view result a)
       (λ trace h within e. absurd (omega (arith, h.0, long))) (λ line e h. absurd (omega (arith, h.0, long))) (λ states e h. absurd (omega (arith, h.1.0, long))) (λ e h. inl e) inr
 
   -- another file that is no trace
@@ -409,8 +399,8 @@ module _ (words : List (List ℕ)) (held : Option Held) (old new : Option (List 
   other_refused result a line r =
       let t = of_other (HasBadTraceLine line) r in
       let texts = lines (bytes_of t.files t.name) in
-      let bad = t.other in
-      by_other t.files t.told t.wanted t.accepted t.mode t.wide t.source t.name t.named result (IsOrFailed (OtherRefused line) result) (view result a)
+      let bad = t.has in
+      by_other t.files t.told t.wanted t.accepted t.mode t.source.0 t.source.1 t.name t.named result (IsOrFailed (OtherRefused line) result) (view result a)
       (λ trace h within e. absurd (no_bad_trace texts trace line h.1 bad.1)) (λ found e h. inl (e ∙ ap OtherRefused (one_bad_line texts found line h.1 bad.1)))
       (λ states e h. absurd (no_bad_trace texts h.0 line h.1.1 bad.1)) (λ e h. absurd (omega (arith, h, bad.0))) inr
 
@@ -419,8 +409,8 @@ module _ (words : List (List ℕ)) (held : Option Held) (old new : Option (List 
   trace_too_long result a states r =
       let t = of_other (HasManyStates states) r in
       let bytes = bytes_of t.files t.name in
-      let many = t.other in
-      by_other t.files t.told t.wanted t.accepted t.mode t.wide t.source t.name t.named result (IsOrFailed (TraceTooLong states) result) (view result a)
+      let many = t.has in
+      by_other t.files t.told t.wanted t.accepted t.mode t.source.0 t.source.1 t.name t.named result (IsOrFailed (TraceTooLong states) result) (view result a)
       (λ trace h within e. not_many bytes trace states h within many) (λ line e h. absurd (no_bad_trace (lines bytes) many.0 line many.1.1 h.1))
       (λ found e h. let same = ap length (one_told bytes h.0 many.0 h.1 many.1) in inl (e ∙ ap TraceTooLong (sym h.2 ∙ same ∙ many.2))) (λ e h. absurd (omega (arith, h, many.1.0))) inr
 
@@ -449,8 +439,8 @@ module _ (words : List (List ℕ)) (held : Option Held) (old new : Option (List 
       (λ e h. absurd (omega (arith, h, bad.0))) inr
   refused_there result a line (inl t) =
       let bytes = bytes_of t.files t.name in
-      let bad = t.inputs in
-      by_program t.files t.told t.wanted t.accepted t.mode t.program t.source result (IsOrFailed (InputsRefused line) result) (view result a)
+      let bad = t.has in
+      by_program t.files t.told t.wanted t.accepted t.mode t.source.0 t.source.1 result (IsOrFailed (InputsRefused line) result) (view result a)
       (λ end text run. let h = inputs_of_run t.files t.told t.wanted t.accepted t.mode t.name t.named run.plan run.asked in absurd (no_faulty_table bytes run.plan.inputs line bad.1.0 h.1 bad.1.1))
       (λ other e s.
       let h = supplied_there t.files t.told t.wanted t.accepted t.mode t.name t.named (HasBadLine other) s in
@@ -466,7 +456,7 @@ module _ (words : List (List ℕ)) (held : Option Held) (old new : Option (List 
   inputs_convert result a table r = by (inputs_read words (AsTold held) (IsToConvert table) r)
     where
       by : ReadsInputs words (AsTold held) (IsToConvert table) ⊎ ReadsTable words (AsTold held) (IsToConvert table) → IsOrFailed Done result
-      by (inl s) = let bad : Run ≡ Convert = sym s.mode ∙ s.inputs.2.0 in absurd (cc)
+      by (inl s) = let bad : Run ≡ Convert = sym s.mode ∙ s.has.2.0 in absurd (cc)
       by (inr s) =
           let t = s.inputs in
           let bytes = bytes_of t.0 s.wanted.file in

@@ -41,8 +41,9 @@ module _ (words : List (List ℕ)) (held : Option Held) (old new : Option (List 
   abbrev pub PrintsRun : Status → Type 0
   PrintsRun result = Prints words held old new result (λ p printed. Unit {0})
 
-  plain : (result : Status) (P : Plan → List Picture → Type 0) → Prints words held old new result P → PrintsRun result
-  plain result P r = record {
+  -- and what else is said of it
+  printed_so : (result : Status) (P Q : Plan → List Picture → Type 0) (r : Prints words held old new result P) → Q r.plan r.pictures → Prints words held old new result Q
+  printed_so result P Q r says = record {
     plan = r.plan;
     pictures = r.pictures;
     asked = r.asked;
@@ -52,8 +53,11 @@ module _ (words : List (List ℕ)) (held : Option Held) (old new : Option (List 
     names = r.names;
     states = r.states;
     range = r.range;
-    says = tt;
+    says = says;
   }
+
+  plain : (result : Status) (P : Plan → List Picture → Type 0) → Prints words held old new result P → PrintsRun result
+  plain result P r = printed_so result P (λ p printed. Unit {0}) r tt
 
   pub ended : (result : Status) → IsEndOfRun result → Answers words held old new result → PrintsRun result
   ended (Finished n) end a = plain (Finished n) _ (finished words held old new (Finished n) a n refl)
@@ -99,18 +103,7 @@ module _ (words : List (List ℕ)) (held : Option Held) (old new : Option (List 
         let orderly : IsOrderlyPlan run.plan = record { program = run.fits; inputs = inputs_within run.asked.wanted.inputs run.plan.inputs run.asked.inputs } in
         let agree = runs_agree run.plan orderly pictures end (subst (λ (p : Plan). RunEndsWith p pictures end) same ends) run.pictures run.run.answer run.run.run in (
           comes_to (globals_of plan) end run.run.answer result (subst (λ (p : Plan). SameEnd (globals_of p) end run.run.answer) (sym same) agree.1) run.run.status_is,
-          record {
-            plan = run.plan;
-            pictures = run.pictures;
-            asked = run.asked;
-            run = run.run;
-            appended = run.appended;
-            fits = run.fits;
-            names = run.names;
-            states = run.states;
-            range = run.range;
-            says = agree.0;
-          },
+          printed_so result (λ p printed. Unit {0}) (λ p printed. SamePictures pictures printed) run agree.0,
         )
 
   pub comes_to_each_end : (result : Status) → Answers words held old new result → ComesToEachEnd words held old new result

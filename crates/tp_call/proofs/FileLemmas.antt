@@ -106,15 +106,19 @@ module _ (words : List (List ℕ)) (Tells : (Held → Type 0) → Type 0) (P : M
   pub source_reader : (r : ReadsFile words Tells Source P) → r.wanted.mode ≡ Convert → ⊥
   source_reader r e = no_source_found r.wanted.mode r.wanted _ _ e r.found
 
-  -- and of inputs, whose source is a program
-  pub record ReadsInputs : Type 0 where
+  -- and of the file that this mode reads behind the source, which serves the mode
+  pub record ReadsSecond (asks : Mode) (second : Wanted → Option (List ℕ)) : Type 0 where
     pub wanted : Wanted
     pub accepted : wanted_of words ≡ Some wanted
-    pub mode : wanted.mode ≡ Run
+    pub mode : wanted.mode ≡ asks
     pub name : List ℕ
-    pub named : wanted.inputs ≡ Some name
+    pub named : second wanted ≡ Some name
     pub source : Tells (λ files. Serves wanted.mode Source (bytes_of files wanted.file))
-    pub inputs : Tells (λ files. P wanted.mode (bytes_of files name))
+    pub has : Tells (λ files. P wanted.mode (bytes_of files name))
+
+  -- of inputs, whose source is a program
+  abbrev pub ReadsInputs : Type 0
+  ReadsInputs = ReadsSecond Run (λ (w : Wanted). w.inputs)
 
   -- or of inputs that are converted
   pub record ReadsTable : Type 0 where
@@ -127,20 +131,14 @@ module _ (words : List (List ℕ)) (Tells : (Held → Type 0) → Type 0) (P : M
   inputs_read r = by (inputs_found r.wanted.mode r.wanted _ _ r.found)
     where
       by : InputsFound r.wanted.mode r.wanted (λ file. Tells (λ files. Serves r.wanted.mode file.which (bytes_of files file.name))) (λ name. Tells (λ files. P r.wanted.mode (bytes_of files name))) → ReadsInputs ⊎ ReadsTable
-      by (inl there) = inl (record { wanted = r.wanted; accepted = r.accepted; mode = there.0; name = there.2.0; named = there.2.1; source = there.1; inputs = there.2.2 })
+      by (inl there) = inl (record { wanted = r.wanted; accepted = r.accepted; mode = there.0; name = there.2.0; named = there.2.1; source = there.1; has = there.2.2 })
       by (inr there) = inr (record { wanted = r.wanted; accepted = r.accepted; mode = there.0; inputs = there.1 })
 
   -- or of the other file, whose source is a wider formula
-  pub record ReadsOther : Type 0 where
-    pub wanted : Wanted
-    pub accepted : wanted_of words ≡ Some wanted
-    pub mode : wanted.mode ≡ Check
-    pub name : List ℕ
-    pub named : wanted.other ≡ Some name
-    pub source : Tells (λ files. Serves wanted.mode Source (bytes_of files wanted.file))
-    pub other : Tells (λ files. P wanted.mode (bytes_of files name))
+  abbrev pub ReadsOther : Type 0
+  ReadsOther = ReadsSecond Check (λ (w : Wanted). w.other)
 
   pub other_read : ReadsFile words Tells Other P → ReadsOther
   other_read r =
       let there = other_found r.wanted.mode r.wanted (λ file. Tells (λ files. Serves r.wanted.mode file.which (bytes_of files file.name))) (λ name. Tells (λ files. P r.wanted.mode (bytes_of files name))) r.found in
-      record { wanted = r.wanted; accepted = r.accepted; mode = there.0; name = there.2.0; named = there.2.1; source = there.1; other = there.2.2 }
+      record { wanted = r.wanted; accepted = r.accepted; mode = there.0; name = there.2.0; named = there.2.1; source = there.1; has = there.2.2 }

@@ -1,12 +1,11 @@
 -- One line is the end line of one status only.
-use Rattle.std.proofs.Common.{◌≡◌, inl, inr, ℕ, Bool, true, false, cond, ◌==◌, ◌&&◌, ◌||◌, List, [], ◌∷◌, ◌++◌, drop, codes, refl, sym, ap, ap₂, ◌∙◌, append_assoc}
+use Rattle.std.proofs.Common.{◌≡◌, ◌+◌, arith, inl, inr, ℕ, Bool, true, false, cond, ◌==◌, ◌&&◌, ◌||◌, List, [], ◌∷◌, ◌++◌, drop, codes, refl, sym, ap, ap₂, ◌∙◌, append_assoc}
 use Rattle.std.specs.Fmt.{decimal}
 use Rattle.tp_store.specs.Known.{Variable}
 use Rattle.tp_kernel.specs.declared.fault.LimitKind.TheVariants as limit
 use Rattle.tp_show.specs.declared.turn.Turn.{Turn}
 use Rattle.tp_show.specs.declared.turn.Turn.TheVariants as turn
 use Rattle.tp_show.specs.EndLine.{end_line}
-use Rattle.tp_show.proofs.ReadWordLemmas.{heads_apart}
 use Rattle.tp_show.proofs.EndPlaces.{number_read}
 use Rattle.tp_show.proofs.EndsToldLemmas.{end_lines_tell}
 use Rattle.tp_call.specs.declared.status.Status.{Status}
@@ -49,19 +48,7 @@ found (TraceTooLong states) h = (many states, h, refl)
 found WordsRefused h = (words, h, refl)
 found (TooLong which) h = (long which, h, refl)
 found (ReadFault which) h = (unread which, h, refl)
-found (Finished length) h = absurd h
-found Done h = absurd h
-found (Contradictory state clash) h = absurd h
-found (Undetermined state cell) h = absurd h
-found (StateLimit states) h = absurd h
-found (ReductionLimit state) h = absurd h
-found (NumberLimit state) h = absurd h
-found (ListLimit state) h = absurd h
-found (CallLimit state) h = absurd h
-found (NestLimit state) h = absurd h
-found (InputMissing state port) h = absurd h
-found WriteFault h = absurd h
-found NoMemory h = absurd h
+found status h = absurd h
 
 -- 115 is the `s` of `source`, and 111 the `o` of `other`
 abbrev which_at : List ℕ → Which
@@ -124,61 +111,19 @@ source_read l m c d j k h i e =
     let kind : j ≡ k = sym (kind_is j) ∙ (ap kind_at (ap (drop 2) column.1) ∙ kind_is k) in
     ap₂ (λ x y. source x y j) line.0 column.0 ∙ ap (source m d) kind
 
-refusal_read : (r s : Refusal) → IsToldRefusal (status_in r) → IsToldRefusal (status_in s) → refusal_line (status_in r) ≡ refusal_line (status_in s) → r ≡ s
-refusal_read (source l c j) (source m d k) h i e = source_read l m c d j k h i e
-refusal_read (source l c j) (inputs m) h i e = absurd (heads_apart 115 105 _ _ refl e)
-refusal_read (source l c j) (trace m) h i e = absurd (heads_apart 115 111 _ _ refl e)
-refusal_read (source l c j) (many m) h i e = absurd (heads_apart 115 116 _ _ refl e)
-refusal_read (source l c j) words h i e = absurd (heads_apart 115 119 _ _ refl e)
-refusal_read (source l c j) (long w) h i e = absurd (heads_apart 115 116 _ _ refl e)
-refusal_read (source l c j) (unread w) h i e = absurd (heads_apart 115 114 _ _ refl e)
-refusal_read (inputs l) (source m d k) h i e = absurd (heads_apart 105 115 _ _ refl e)
-refusal_read (inputs l) (inputs m) h i e =
-    ap inputs (number_read l m (codes "\n") (codes "\n") h i refl refl (ap (drop 21) (sym (inputs_is (decimal l)) ∙ (e ∙ inputs_is (decimal m))))).0
-refusal_read (inputs l) (trace m) h i e = absurd (heads_apart 105 111 _ _ refl e)
-refusal_read (inputs l) (many m) h i e = absurd (heads_apart 105 116 _ _ refl e)
-refusal_read (inputs l) words h i e = absurd (heads_apart 105 119 _ _ refl e)
-refusal_read (inputs l) (long w) h i e = absurd (heads_apart 105 116 _ _ refl e)
-refusal_read (inputs l) (unread w) h i e = absurd (heads_apart 105 114 _ _ refl e)
-refusal_read (trace l) (source m d k) h i e = absurd (heads_apart 111 115 _ _ refl e)
-refusal_read (trace l) (inputs m) h i e = absurd (heads_apart 111 105 _ _ refl e)
-refusal_read (trace l) (trace m) h i e =
-    ap trace (number_read l m (codes "\n") (codes "\n") h i refl refl (ap (drop 20) (sym (trace_is (decimal l)) ∙ (e ∙ trace_is (decimal m))))).0
-refusal_read (trace l) (many m) h i e = absurd (heads_apart 111 116 _ _ refl e)
-refusal_read (trace l) words h i e = absurd (heads_apart 111 119 _ _ refl e)
-refusal_read (trace l) (long w) h i e = absurd (heads_apart 111 116 _ _ refl e)
-refusal_read (trace l) (unread w) h i e = absurd (heads_apart 111 114 _ _ refl e)
-refusal_read (many l) (source m d k) h i e = absurd (heads_apart 116 115 _ _ refl e)
-refusal_read (many l) (inputs m) h i e = absurd (heads_apart 116 105 _ _ refl e)
-refusal_read (many l) (trace m) h i e = absurd (heads_apart 116 111 _ _ refl e)
-refusal_read (many l) (many m) h i e =
-    ap many (number_read l m (codes " states" ++ codes "\n") (codes " states" ++ codes "\n") h i refl refl (ap (drop 16) (sym (many_is (decimal l)) ∙ (e ∙ many_is (decimal m))))).0
-refusal_read (many l) words h i e = absurd (heads_apart 116 119 _ _ refl e)
-refusal_read (many l) (long w) h i e = absurd (heads_apart 114 111 _ _ refl (ap (drop 1) e))
-refusal_read (many l) (unread w) h i e = absurd (heads_apart 116 114 _ _ refl e)
-refusal_read words (source m d k) h i e = absurd (heads_apart 119 115 _ _ refl e)
-refusal_read words (inputs m) h i e = absurd (heads_apart 119 105 _ _ refl e)
-refusal_read words (trace m) h i e = absurd (heads_apart 119 111 _ _ refl e)
-refusal_read words (many m) h i e = absurd (heads_apart 119 116 _ _ refl e)
-refusal_read words words h i e = refl
-refusal_read words (long w) h i e = absurd (heads_apart 119 116 _ _ refl e)
-refusal_read words (unread w) h i e = absurd (heads_apart 119 114 _ _ refl e)
-refusal_read (long v) (source m d k) h i e = absurd (heads_apart 116 115 _ _ refl e)
-refusal_read (long v) (inputs m) h i e = absurd (heads_apart 116 105 _ _ refl e)
-refusal_read (long v) (trace m) h i e = absurd (heads_apart 116 111 _ _ refl e)
-refusal_read (long v) (many m) h i e = absurd (heads_apart 111 114 _ _ refl (ap (drop 1) e))
-refusal_read (long v) words h i e = absurd (heads_apart 116 119 _ _ refl e)
-refusal_read (long v) (long w) h i e = ap long (sym (which_is v) ∙ (ap which_at (ap (drop 10) e) ∙ which_is w))
-refusal_read (long v) (unread w) h i e = absurd (heads_apart 116 114 _ _ refl e)
-refusal_read (unread v) (source m d k) h i e = absurd (heads_apart 114 115 _ _ refl e)
-refusal_read (unread v) (inputs m) h i e = absurd (heads_apart 114 105 _ _ refl e)
-refusal_read (unread v) (trace m) h i e = absurd (heads_apart 114 111 _ _ refl e)
-refusal_read (unread v) (many m) h i e = absurd (heads_apart 114 116 _ _ refl e)
-refusal_read (unread v) words h i e = absurd (heads_apart 114 119 _ _ refl e)
-refusal_read (unread v) (long w) h i e = absurd (heads_apart 114 116 _ _ refl e)
-refusal_read (unread v) (unread w) h i e = ap unread (sym (which_is v) ∙ (ap which_at (ap (drop 12) e) ∙ which_is w))
+-- the first letter tells the cause, and at `t` the second one
+abbrev tag_at : List ℕ → ℕ
+tag_at (a ∷ b ∷ z) = cond (a == 116) (b + b) a
+tag_at z = 0
 
--- ---- the end line of a run is none of a refusal
+abbrev tag : Refusal → ℕ
+tag (source line column kind) = 115
+tag (inputs line) = 105
+tag (trace line) = 111
+tag (many states) = 228
+tag words = 119
+tag (long which) = 222
+tag (unread which) = 114
 
 -- `words`, `other`, `too long` and `trace`; `so` of `source`; `inputs`, and not `input `; `rea` of `read`
 abbrev refused_by : (a b c f : ℕ) → Bool
@@ -188,14 +133,34 @@ abbrev is_refused : List ℕ → Bool
 is_refused (a ∷ b ∷ c ∷ d ∷ e ∷ f ∷ z) = refused_by a b c f
 is_refused z = false
 
-refusal_refused : (r : Refusal) → is_refused (refusal_line (status_in r)) ≡ true
-refusal_refused (source line column kind) = refl
-refusal_refused (inputs line) = refl
-refusal_refused (trace line) = refl
-refusal_refused (many states) = refl
-refusal_refused words = refl
-refusal_refused (long which) = refl
-refusal_refused (unread which) = refl
+-- what the line of a refusal begins with
+begins : (r : Refusal) → (tag_at (refusal_line (status_in r)) ≡ tag r) × (is_refused (refusal_line (status_in r)) ≡ true)
+begins (source line column kind) = (refl, refl)
+begins (inputs line) = (refl, refl)
+begins (trace line) = (refl, refl)
+begins (many states) = (refl, refl)
+begins words = (refl, refl)
+begins (long which) = (refl, refl)
+begins (unread which) = (refl, refl)
+
+-- of one cause, the line tells the rest
+read_on : (r s : Refusal) → tag r ≡ tag s → IsToldRefusal (status_in r) → IsToldRefusal (status_in s) → refusal_line (status_in r) ≡ refusal_line (status_in s) → r ≡ s
+read_on (source l c j) (source m d k) t h i e = source_read l m c d j k h i e
+read_on (inputs l) (inputs m) t h i e =
+    ap inputs (number_read l m (codes "\n") (codes "\n") h i refl refl (ap (drop 21) (sym (inputs_is (decimal l)) ∙ (e ∙ inputs_is (decimal m))))).0
+read_on (trace l) (trace m) t h i e =
+    ap trace (number_read l m (codes "\n") (codes "\n") h i refl refl (ap (drop 20) (sym (trace_is (decimal l)) ∙ (e ∙ trace_is (decimal m))))).0
+read_on (many l) (many m) t h i e =
+    ap many (number_read l m (codes " states" ++ codes "\n") (codes " states" ++ codes "\n") h i refl refl (ap (drop 16) (sym (many_is (decimal l)) ∙ (e ∙ many_is (decimal m))))).0
+read_on words words t h i e = refl
+read_on (long v) (long w) t h i e = ap long (sym (which_is v) ∙ (ap which_at (ap (drop 10) e) ∙ which_is w))
+read_on (unread v) (unread w) t h i e = ap unread (sym (which_is v) ∙ (ap which_at (ap (drop 12) e) ∙ which_is w))
+read_on _ _ t h i e = absurd (omega (arith, t))
+
+refusal_read : (r s : Refusal) → IsToldRefusal (status_in r) → IsToldRefusal (status_in s) → refusal_line (status_in r) ≡ refusal_line (status_in s) → r ≡ s
+refusal_read r s h i e = read_on r s (sym (begins r).0 ∙ (ap tag_at e ∙ (begins s).0)) h i e
+
+-- ---- the end line of a run is none of a refusal
 
 run_not_refused : (globals : List (List ℕ)) (known : List Variable) (reductions : ℕ) (answer : Turn) → is_refused (end_line globals known reductions answer) ≡ false
 run_not_refused globals known reductions turn.Went = refl
@@ -214,7 +179,7 @@ apart : (globals : List (List ℕ)) (known : List Variable) (reductions : ℕ) (
 apart globals known reductions answer status h e =
     let r = found status h in
     let same : end_line globals known reductions answer ≡ refusal_line (status_in r.0) = e ∙ ap refusal_line (sym r.2) in
-    absurd (cc (sym (run_not_refused globals known reductions answer) ∙ (ap is_refused same ∙ refusal_refused r.0)))
+    absurd (cc (sym (run_not_refused globals known reductions answer) ∙ (ap is_refused same ∙ (begins r.0).1)))
 
 one_refusal : (status second : Status) → IsToldRefusal status → IsToldRefusal second → refusal_line status ≡ refusal_line second → status ≡ second
 one_refusal status second h k e =

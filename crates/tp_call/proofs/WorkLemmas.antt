@@ -200,69 +200,27 @@ module _ (plan : Plan) (order : Order) (to : RunPlace) (old mid new : ℕ) (ps :
       }
   finishes earlier picture k (inr t) = let within = t.0.0.within in absurd (omega (arith, within, t.1))
 
-  clashes : (earlier picture : Picture) (state : ℕ) (clash : Clash) → Tried earlier picture (turn.Contradictory state clash) → TriedLast picture (turn.Contradictory state clash)
-  clashes earlier picture state clash (inl t) =
-      let w = t.1.becomes in
-      let e = w.1 in
-      let closed = subst (λ (x : Ending). ClosesThriftily (setting plan (length ps)) order plan.reductions m w.0.last w.0.picks x t.0) t.1.ends t.1.closes in
-      let g = subst (λ i. (g : replay.MeetsClash (setting plan i) plan.reductions m clash) × (w.0.last ≡ g.last) × ClosesThriftily (setting plan i) order plan.reductions m g.last g.picks (ending.Clash clash) t.0) (sym e) (w.0, refl, closed) in
-      let run : RunEndsWith plan ps (turn.Contradictory state clash) = (m, leads, g.0, e, subst (λ i. i < plan.states) (sym e) w.2) in
-      record {
-        run = run;
-        holds = w.5 ∙ ap (λ (z : Moment). z.store) g.1;
-        tried = run_tried (turn.Contradictory state clash) ps run t.0 (tallies_to t.0 state g.0.last g.0.picks (ending.Clash clash) g.2) t.2;
-        text_is = text_before;
-      }
-  clashes earlier picture state clash (inr t) = absurd (omega (arith, t.0.2, t.1))
+  -- a state stops the run, which this says of the states with any number, and what it says of this one
+  pub record StopsAt (Stops : ℕ → Type 0) (last : (i : ℕ) → Stops i → Moment) (picks : (i : ℕ) → Stops i → List ℕ) (end : Ending) (t : Tally) (state : ℕ) : Type 0 where
+    pub there : Stops state
+    pub number : state ≡ length ps
+    pub within : state < plan.states
+    pub holds : to.store ≡ (last state there).store
+    pub closes : ClosesThriftily (setting plan state) order plan.reductions m (last state there) (picks state there) end t
 
-  opens : (earlier picture : Picture) (state : ℕ) (cell : Cell) → Tried earlier picture (turn.Undetermined state cell) → TriedLast picture (turn.Undetermined state cell)
-  opens earlier picture state cell (inl t) =
-      let w = t.1.becomes in
-      let e = w.1 in
-      let closed = subst (λ (x : Ending). ClosesThriftily (setting plan (length ps)) order plan.reductions m w.0.last w.0.picks x t.0) t.1.ends t.1.closes in
-      let g = subst (λ i. (g : replay.IsOpen (setting plan i) plan.reductions m cell) × (w.0.last ≡ g.last) × ClosesThriftily (setting plan i) order plan.reductions m g.last g.picks ending.Rest t.0) (sym e) (w.0, refl, closed) in
-      let run : RunEndsWith plan ps (turn.Undetermined state cell) = (m, leads, g.0, e, subst (λ i. i < plan.states) (sym e) w.2) in
-      record {
-        run = run;
-        holds = w.5 ∙ ap (λ (z : Moment). z.store) g.1;
-        tried = run_tried (turn.Undetermined state cell) ps run t.0 (tallies_to t.0 state g.0.last g.0.picks ending.Rest g.2) t.2;
-        text_is = text_before;
-      }
-  opens earlier picture state cell (inr t) = absurd (omega (arith, t.0.2, t.1))
+  stops_at : (Stops : ℕ → Type 0) (last : (i : ℕ) → Stops i → Moment) (picks : (i : ℕ) → Stops i → List ℕ) (end : Ending) (t : Tally) (state : ℕ) → state ≡ length ps → (stop : Stops (length ps)) → length ps < plan.states → to.store ≡ (last (length ps) stop).store
+      → (found : Ending) → found ≡ end → ClosesThriftily (setting plan (length ps)) order plan.reductions m (last (length ps) stop) (picks (length ps) stop) found t → StopsAt Stops last picks end t state
+  stops_at Stops last picks end t state e stop within holds found is closes =
+      let closed = subst (λ (x : Ending). ClosesThriftily (setting plan (length ps)) order plan.reductions m (last (length ps) stop) (picks (length ps) stop) x t) is closes in
+      let here : StopsAt Stops last picks end t (length ps) = record { there = stop; number = refl; within = within; holds = holds; closes = closed } in
+      subst (StopsAt Stops last picks end t) (sym e) here
 
-  misses : (earlier picture : Picture) (state : ℕ) (port : List ℕ) → Tried earlier picture (turn.InputMissing state port) → TriedLast picture (turn.InputMissing state port)
-  misses earlier picture state port (inl t) =
-      let w = t.1.becomes in
-      let e = w.1 in
-      let closed = subst (λ (x : Ending). ClosesThriftily (setting plan (length ps)) order plan.reductions m w.0.last w.0.picks x t.0) t.1.ends t.1.closes in
-      let g = subst (λ i. (g : replay.MissesInput (setting plan i) plan.reductions m port) × (w.0.last ≡ g.last) × ClosesThriftily (setting plan i) order plan.reductions m g.last g.picks (ending.Missing port) t.0) (sym e) (w.0, refl, closed) in
-      let run : RunEndsWith plan ps (turn.InputMissing state port) = (m, leads, g.0, e, subst (λ i. i < plan.states) (sym e) w.2) in
-      record {
-        run = run;
-        holds = w.5 ∙ ap (λ (z : Moment). z.store) g.1;
-        tried = run_tried (turn.InputMissing state port) ps run t.0 (tallies_to t.0 state g.0.last g.0.picks (ending.Missing port) g.2) t.2;
-        text_is = text_before;
-      }
-  misses earlier picture state port (inr t) = absurd (omega (arith, t.0.2, t.1))
-
-  reaches : (earlier picture : Picture) (state : ℕ) (kind : LimitKind) → Tried earlier picture (turn.Over state kind) → TriedLast picture (turn.Over state kind)
-  reaches earlier picture state kind (inl t) =
-      let w = t.1.becomes in
-      let e = w.1 in
-      let here : ℕ → Moment → List ℕ → Type 0 = λ i z xs. ClosesThriftily (setting plan i) order plan.reductions m z xs (ending.Over kind) t.0 in
-      let last = limit_moment (setting plan (length ps)) plan.reductions m kind w.0 in
-      let closed = subst (λ (x : Ending). ClosesThriftily (setting plan (length ps)) order plan.reductions m last (limit_picks (setting plan (length ps)) plan.reductions m kind w.0) x t.0) t.1.ends t.1.closes in
-      let g = subst (λ i. (g : ReachesLimit (setting plan i) plan.reductions m kind) × (last ≡ limit_moment (setting plan i) plan.reductions m kind g)
-      × here i (limit_moment (setting plan i) plan.reductions m kind g) (limit_picks (setting plan i) plan.reductions m kind g)) (sym e) (w.0, refl, closed) in
-      let run : RunEndsWith plan ps (turn.Over state kind) = (m, leads, g.0, e, subst (λ i. i < plan.states) (sym e) w.2) in
-      record {
-        run = run;
-        holds = w.5 ∙ ap (λ (z : Moment). z.store) g.1;
-        tried = run_tried (turn.Over state kind) ps run t.0
-            (tallies_to t.0 state (limit_moment (setting plan state) plan.reductions m kind g.0) (limit_picks (setting plan state) plan.reductions m kind g.0) (ending.Over kind) g.2) t.2;
-        text_is = text_before;
-      }
-  reaches earlier picture state kind (inr t) = absurd (omega (arith, t.0.2, t.1))
+  -- a run that ends so
+  ends_so : (picture : Picture) (answer : Turn) (t : Tally) → CountsStateTries mid new t answer → (run : RunEndsWith plan (pictures_after ps picture answer) answer) → to.store ≡ end_store plan (pictures_after ps picture answer) answer run
+      → AreTalliesOfRun plan order (pictures_after ps picture answer) answer run (h.tallies ++ t ∷ [])
+      → ((beside : Beside) → ended_text beside plan (pictures_after ps picture answer) answer run ≡ lead_text beside plan ps m leads ++ printed_lines beside plan.program answer picture (next_moment to)) → TriedLast picture answer
+  ends_so picture answer t counts run holds tallies text =
+      record { run = run; holds = holds; tried = run_tried answer (pictures_after ps picture answer) run t tallies counts; text_is = text }
 
   -- the state after the last one that there may be isn't begun
   none_begun : (earlier picture : Picture) (states : ℕ) → Tried earlier picture (turn.StateLimit states) → TriedLast picture (turn.StateLimit states)
@@ -280,11 +238,22 @@ module _ (plan : Plan) (order : Order) (to : RunPlace) (old mid new : ℕ) (ps :
   pub tried_last : (earlier picture : Picture) (last : Turn) → IsLastTurn last → Tried earlier picture last → TriedLast picture last
   tried_last earlier picture turn.Went ends t = absurd ends
   tried_last earlier picture (turn.Finished k) ends t = finishes earlier picture k t
-  tried_last earlier picture (turn.Contradictory state clash) ends t = clashes earlier picture state clash t
-  tried_last earlier picture (turn.Undetermined state cell) ends t = opens earlier picture state cell t
   tried_last earlier picture (turn.StateLimit states) ends t = none_begun earlier picture states t
-  tried_last earlier picture (turn.InputMissing state port) ends t = misses earlier picture state port t
-  tried_last earlier picture (turn.Over state kind) ends t = reaches earlier picture state kind t
+  tried_last earlier picture (turn.Contradictory state clash) ends (inl t) =
+      let s = stops_at (λ i. replay.MeetsClash (setting plan i) plan.reductions m clash) (λ i g. g.last) (λ i g. g.picks) (ending.Clash clash) t.0 state t.1.becomes.1 t.1.becomes.0 t.1.becomes.2 t.1.becomes.5 _ t.1.ends t.1.closes in
+      ends_so picture (turn.Contradictory state clash) t.0 t.2 (m, leads, s.there, s.number, s.within) s.holds (tallies_to t.0 state s.there.last s.there.picks (ending.Clash clash) s.closes) text_before
+  tried_last earlier picture (turn.Undetermined state cell) ends (inl t) =
+      let s = stops_at (λ i. replay.IsOpen (setting plan i) plan.reductions m cell) (λ i g. g.last) (λ i g. g.picks) ending.Rest t.0 state t.1.becomes.1 t.1.becomes.0 t.1.becomes.2 t.1.becomes.5 _ t.1.ends t.1.closes in
+      ends_so picture (turn.Undetermined state cell) t.0 t.2 (m, leads, s.there, s.number, s.within) s.holds (tallies_to t.0 state s.there.last s.there.picks ending.Rest s.closes) text_before
+  tried_last earlier picture (turn.InputMissing state port) ends (inl t) =
+      let s = stops_at (λ i. replay.MissesInput (setting plan i) plan.reductions m port) (λ i g. g.last) (λ i g. g.picks) (ending.Missing port) t.0 state t.1.becomes.1 t.1.becomes.0 t.1.becomes.2 t.1.becomes.5 _ t.1.ends t.1.closes in
+      ends_so picture (turn.InputMissing state port) t.0 t.2 (m, leads, s.there, s.number, s.within) s.holds (tallies_to t.0 state s.there.last s.there.picks (ending.Missing port) s.closes) text_before
+  tried_last earlier picture (turn.Over state kind) ends (inl t) =
+      let last : (i : ℕ) → ReachesLimit (setting plan i) plan.reductions m kind → Moment = λ i g. limit_moment (setting plan i) plan.reductions m kind g in
+      let picks : (i : ℕ) → ReachesLimit (setting plan i) plan.reductions m kind → List ℕ = λ i g. limit_picks (setting plan i) plan.reductions m kind g in
+      let s = stops_at (λ i. ReachesLimit (setting plan i) plan.reductions m kind) last picks (ending.Over kind) t.0 state t.1.becomes.1 t.1.becomes.0 t.1.becomes.2 t.1.becomes.5 _ t.1.ends t.1.closes in
+      ends_so picture (turn.Over state kind) t.0 t.2 (m, leads, s.there, s.number, s.within) s.holds (tallies_to t.0 state (last state s.there) (picks state s.there) (ending.Over kind) s.closes) text_before
+  tried_last earlier picture _ ends (inr t) = absurd (omega (arith, t.0.2, t.1))
 
 -- the run's states were written, too
 module _ (plan : Plan) (beside : Beside) (order : Order) (from to : RunPlace) (before now after : Option (List ℕ)) (old mid new : ℕ) (h : HasWorked plan beside order from before now old mid) where

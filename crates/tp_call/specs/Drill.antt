@@ -110,28 +110,23 @@ module _ (words : List (List ℕ)) (size : ℕ) (old new : Option (List ℕ)) (b
   abbrev WroteWhole : (List ℕ → Type 0) → Type 0
   WroteWhole P = (text : List ℕ) × P text × Wrote old new text
 
+  -- that of a run which ended with this status, and didn't finish
+  abbrev WroteStopped : Status → Type 0
+  WroteStopped status = WroteWhole (DrillStopped words size before after status)
+
   -- What a drill answered and wrote, with the count of tries before and after it. After a failed
   -- write it is a part of its text, from the start; where memory was wanted nothing was written.
   abbrev pub DrillAnswers : Status → Type 0
   DrillAnswers Done = WroteWhole (DrillFinished words size before after)
-  DrillAnswers (Contradictory state clash) =
-      WroteWhole (DrillStopped words size before after (Contradictory state clash))
-  DrillAnswers (Undetermined state cell) =
-      WroteWhole (DrillStopped words size before after (Undetermined state cell))
-  DrillAnswers (StateLimit states) =
-      WroteWhole (DrillStopped words size before after (StateLimit states))
-  DrillAnswers (ReductionLimit state) =
-      WroteWhole (DrillStopped words size before after (ReductionLimit state))
-  DrillAnswers (NumberLimit state) =
-      WroteWhole (DrillStopped words size before after (NumberLimit state))
-  DrillAnswers (ListLimit state) =
-      WroteWhole (DrillStopped words size before after (ListLimit state))
-  DrillAnswers (CallLimit state) =
-      WroteWhole (DrillStopped words size before after (CallLimit state))
-  DrillAnswers (NestLimit state) =
-      WroteWhole (DrillStopped words size before after (NestLimit state))
-  DrillAnswers (InputMissing state port) =
-      WroteWhole (DrillStopped words size before after (InputMissing state port))
+  DrillAnswers (Contradictory state clash) = WroteStopped (Contradictory state clash)
+  DrillAnswers (Undetermined state cell) = WroteStopped (Undetermined state cell)
+  DrillAnswers (StateLimit states) = WroteStopped (StateLimit states)
+  DrillAnswers (ReductionLimit state) = WroteStopped (ReductionLimit state)
+  DrillAnswers (NumberLimit state) = WroteStopped (NumberLimit state)
+  DrillAnswers (ListLimit state) = WroteStopped (ListLimit state)
+  DrillAnswers (CallLimit state) = WroteStopped (CallLimit state)
+  DrillAnswers (NestLimit state) = WroteStopped (NestLimit state)
+  DrillAnswers (InputMissing state port) = WroteStopped (InputMissing state port)
   DrillAnswers (SourceRefused line column kind) =
       WroteWhole (DrillRefused words size (SourceRefused line column kind))
   DrillAnswers WriteFault =

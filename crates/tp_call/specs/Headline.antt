@@ -20,7 +20,7 @@ use Rattle.tp_words.specs.Words.{wanted_of}
 use Rattle.tp_run.specs.States.{Plan}
 use Rattle.tp_show.specs.Told.{FitsIn64Bits}
 use Rattle.tp_call.specs.Judged.{WritesVerdict}
-use Rattle.tp_call.specs.Text.{AsksNothingBeside, TextTells, SatisfiedAsTold, ContinuesTold, finished_line}
+use Rattle.tp_call.specs.Text.{AsksNothingBeside, TextTells, ContinuesTold, FinishesAsTold}
 use Rattle.tp_call.specs.Answer.{WhereTold, AsTold, HoldsRefused, IsPastLimit, HasBadLine, HasBadTraceLine, HasManyStates, IsAskedFor, IsAskedToCheck, IsToPrint, IsToConvert, ReadsFile, Prints, WritesSpelling, WritesTable, IsOrStopped, IsOrFailed, IsEndOfRun, IsOpenEnd, HasFailed, refused_status}
 
 module _ (words : List (List ℕ)) (held : Option Held) (old new : Option (List ℕ))
@@ -68,9 +68,7 @@ module _ (words : List (List ℕ)) (held : Option Held) (old new : Option (List 
   -- what the states' lines say, and S is what the `show` lines say.
   abbrev pub FinishedTextSays : Type 0
   FinishedTextSays = (length : ℕ) → result ≡ Finished length → AsksNothingBeside words
-      → TextTells words held old new
-      (λ plan told last. (n : ℕ) → FitsIn64Bits n → last ≡ finished_line n
-      → SatisfiedAsTold plan told n)
+      → TextTells words held old new FinishesAsTold
 
   -- Where a run is undetermined or reaches a limit: however the text is read, each interval that
   -- satisfies the program begins with what it tells, and has more states.

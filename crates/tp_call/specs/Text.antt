@@ -6,7 +6,7 @@ use Rattle.tp_meaning.specs.Course.{Course, Shows}
 use Rattle.tp_meaning.specs.Interval.{IsInterval, Satisfies}
 use Rattle.tp_run.specs.States.{Plan}
 use Rattle.tp_show.specs.Line.{ToldState, told_text}
-use Rattle.tp_show.specs.Told.{IsToldOf, IsEndLine, AgreesWithTold, told_shows}
+use Rattle.tp_show.specs.Told.{IsToldOf, IsEndLine, AgreesWithTold, told_shows, FitsIn64Bits}
 use Rattle.tp_words.specs.Words.{Wanted, wanted_of}
 use Rattle.tp_call.specs.Written.{Wrote}
 use Rattle.tp_call.specs.Answer.{IsAskedFor}
@@ -45,10 +45,16 @@ ContinuesTold plan told =
     → (length told + a ≤ b) × AgreesWithTold s a told
     × ((j : ℕ) → j < length told + a → S j ≡ told_shows a told j)
 
+-- the last line names a length with which the program is satisfied as told
+abbrev pub FinishesAsTold : Plan → List ToldState → (last : List ℕ) → Type 0
+FinishesAsTold plan told last =
+    (n : ℕ) → FitsIn64Bits n → last ≡ finished_line n → SatisfiedAsTold plan told n
+
 -- Of the words, of what the files hold, and of what was written before and after: a run of what is
--- asked for appended a text, this text can be read, and however it is read, what it tells and its
--- last line have P.
-pub record TextTells (words : List (List ℕ)) (held : Option Held) (old new : Option (List ℕ))
+-- asked for appended a text, this text can be read in this way, and however it is so read, what it
+-- tells and its last line have P.
+pub record TellsReadBy (Reads : List (List ℕ) → List ℕ → List ToldState → List ℕ → Type 0)
+    (words : List (List ℕ)) (held : Option Held) (old new : Option (List ℕ))
     (P : Plan → List ToldState → List ℕ → Type 0) : Type 0 where
   pub plan : Plan
   pub asked : IsAskedFor words held plan
@@ -56,6 +62,11 @@ pub record TextTells (words : List (List ℕ)) (held : Option Held) (old new : O
   pub appended : Wrote old new text
   pub told : List ToldState
   pub end : List ℕ
-  pub reads : ReadsAs plan.program.globals text told end
+  pub reads : Reads plan.program.globals text told end
   pub means : (other : List ToldState) (last : List ℕ)
-      → ReadsAs plan.program.globals text other last → P plan other last
+      → Reads plan.program.globals text other last → P plan other last
+
+-- the same of lines of states alone
+abbrev pub TextTells : List (List ℕ) → Option Held → (old new : Option (List ℕ))
+    → (Plan → List ToldState → List ℕ → Type 0) → Type 0
+TextTells = TellsReadBy ReadsAs

@@ -6,14 +6,13 @@ use Rattle.tp_store.specs.Known.{Variable}
 use Rattle.tp_show.specs.declared.turn.Turn.{Turn}
 use Rattle.tp_show.specs.Line.{ToldState, told_lines, IsOneLine, fed_line}
 use Rattle.tp_show.specs.EndLine.{last_words, end_line}
-use Rattle.tp_show.specs.Told.{IsToldOf, IsLastTurn, FitsIn64Bits}
+use Rattle.tp_show.specs.Told.{IsToldOf, IsLastTurn}
 use Rattle.tp_show.specs.TraceLine.{opens_with_one}
 use Rattle.tp_run.specs.States.{Plan}
 use Rattle.tp_call.specs.declared.status.Status.{Status}
 use Rattle.tp_call.specs.declared.status.Status.TheVariants.{Finished}
-use Rattle.tp_call.specs.Written.{Wrote}
-use Rattle.tp_call.specs.Text.{finished_line, SatisfiedAsTold, ContinuesTold}
-use Rattle.tp_call.specs.Answer.{IsAskedFor, IsOpenEnd}
+use Rattle.tp_call.specs.Text.{FinishesAsTold, ContinuesTold, TellsReadBy}
+use Rattle.tp_call.specs.Answer.{IsOpenEnd}
 
 -- what a trace line begins with
 abbrev pub trace_openings : List (List ℕ)
@@ -57,20 +56,11 @@ pub record ReadsTracedAs (names : List (List ℕ)) (text : List ℕ) (told : Lis
   pub last : IsOneEndLine names end
   pub whole : text ≡ traced_text names states ++ end
 
--- Of the words, of what the files hold, and of what was written before and after: a run of what is
--- asked for appended a text, this text can be read, and however it is read, what it tells and its
--- last line have P.
-pub record TracedTextTells (words : List (List ℕ)) (held : Option Held) (old new : Option (List ℕ))
-    (P : Plan → List ToldState → List ℕ → Type 0) : Type 0 where
-  pub plan : Plan
-  pub asked : IsAskedFor words held plan
-  pub text : List ℕ
-  pub appended : Wrote old new text
-  pub told : List ToldState
-  pub end : List ℕ
-  pub reads : ReadsTracedAs plan.program.globals text told end
-  pub means : (other : List ToldState) (last : List ℕ)
-      → ReadsTracedAs plan.program.globals text other last → P plan other last
+-- a run of what is asked for appended a text that can be read so, and however it is so read, what it
+-- tells and its last line have P
+abbrev pub TracedTextTells : List (List ℕ) → Option Held → (old new : Option (List ℕ))
+    → (Plan → List ToldState → List ℕ → Type 0) → Type 0
+TracedTextTells = TellsReadBy ReadsTracedAs
 
 module _ (words : List (List ℕ)) (held : Option Held) (old new : Option (List ℕ))
     (result : Status) where
@@ -80,9 +70,7 @@ module _ (words : List (List ℕ)) (held : Option Held) (old new : Option (List 
   -- lines say.
   abbrev pub FinishedTracedSays : Type 0
   FinishedTracedSays = (files : Held) → held ≡ Some files → (length : ℕ) → result ≡ Finished length
-      → TracedTextTells words held old new
-      (λ plan told last. (n : ℕ) → FitsIn64Bits n → last ≡ finished_line n
-      → SatisfiedAsTold plan told n)
+      → TracedTextTells words held old new FinishesAsTold
 
   -- Where a run is undetermined or reaches a limit: however the text is read, each interval that
   -- satisfies the program begins with what it tells, and has more states.

@@ -31,9 +31,9 @@ use tp_check::Program;
 use tp_gen::large_source;
 use tp_io::Sink;
 use tp_run::{Limits, Run};
-use tp_show::{LineParts, Picture, Turn};
-use tp_step::{Order, Shows, Steps, Tally};
-use tp_value::{Facts, NoMemory, Text};
+use tp_show::{Picture, Turn};
+use tp_step::{Order, Steps, Tally};
+use tp_value::{NoMemory, Text};
 use tp_words::Beside;
 
 /// What is run in a drill: a source of so many variables, how far, and in which order.
@@ -181,23 +181,6 @@ fn make_counted<L: Ledger>(
     Ok(last_answer(turn))
 }
 
-// A picture of no state yet.
-fn no_picture(alloc: Global) -> Picture {
-    Picture {
-        state: 0,
-        facts: Facts {
-            items: Vec::new(alloc),
-        },
-        parts: LineParts {
-            items: Vec::new(alloc),
-        },
-        shows: Shows {
-            items: Vec::new(alloc),
-        },
-        reductions: 0,
-    }
-}
-
 // Runs the task of a drill, and counts its states. Nothing is written.
 fn run_counted<L: Ledger>(
     alloc: Global,
@@ -209,7 +192,7 @@ fn run_counted<L: Ledger>(
         RunDrilled (plan_of task) task.order steps.old steps.new drilled) }
 {
     let mut run = start(alloc, task)?;
-    let mut picture = no_picture(alloc);
+    let mut picture = Picture::new(alloc);
     let mut totals = Totals {
         reductions: 0,
         tries: 0,

@@ -30,39 +30,35 @@ use tp_io::{Sink, WriteRefusal};
 use tp_kernel::LimitKind;
 use tp_residual::trace_text;
 use tp_run::{Limits, Run};
-use tp_show::{LineParts, Picture, Turn, picture_text};
-use tp_step::{Order, Shows, Steps};
-use tp_value::{Facts, NoMemory, Text};
+use tp_show::{Picture, Turn, picture_text};
+use tp_step::{Order, Steps};
+use tp_value::{NoMemory, Text};
 use tp_words::Beside;
 
 // The lines of a settled state, and what is asked for beside them.
-fn append_state(
-    alloc: Global,
-    run: &Run,
-    picture: &Picture,
-    beside: Beside,
-    text: &mut Text,
-) -> Result<(), NoMemory>
+fn state_text(alloc: Global, run: &Run, picture: &Picture, beside: Beside) -> Result<Text, NoMemory>
     requires parts { plain_parts picture.now.parts ≡ line_parts picture.now.facts }
     requires carried { CarriesDue run.now }
-    ensures text { OnOk result (text.new ≡ text.old
-        ++ written_state beside (program_of run.now) picture.now
+    ensures text { IfOk result (λ text. text
+        ≡ written_state beside (program_of run.now) picture.now
         (next_moment (standing_place run.now))) }
     ensures range { OnOk result (IsPictureInRange picture.now) }
 {
     let program = run.program();
-    picture_text(picture, &program.globals, text)?;
+    let mut text = Text::new(alloc);
+    picture_text(picture, &program.globals, &mut text)?;
     match beside {
-        Beside::Nothing => Ok(()),
+        Beside::Nothing => {}
         Beside::TraceLines => trace_text(
             alloc,
             picture,
             run.scene(),
             run.store(),
             &program.defs,
-            text,
-        ),
+            &mut text,
+        )?,
     }
+    Ok(text)
 }
 
 // Writes a settled state, by one write.
@@ -83,8 +79,7 @@ fn write_state<K: Sink>(
     ensures cause { IsErrOf result WriteRefusal.Failed
         → Rose K.greatest (K.faults out.old) (K.faults out.new) }
 {
-    let mut text = Text::new(alloc);
-    append_state(alloc, run, picture, beside, &mut text)?;
+    let text = state_text(alloc, run, picture, beside)?;
     out.write(alloc, text.as_slice())
 }
 
@@ -261,19 +256,7 @@ pub fn run_task<K: Sink, L: Ledger>(
 {
     let beside = task.beside;
     let mut run = start(alloc, task)?;
-    let mut picture = Picture {
-        state: 0,
-        facts: Facts {
-            items: Vec::new(alloc),
-        },
-        parts: LineParts {
-            items: Vec::new(alloc),
-        },
-        shows: Shows {
-            items: Vec::new(alloc),
-        },
-        reductions: 0,
-    };
+    let mut picture = Picture::new(alloc);
     loop {
         if let Some(turn) = make_state(alloc, &mut run, &mut picture, beside, out, steps)? {
             return Ok(Ended { run, turn });

@@ -13,40 +13,28 @@ states-init g c = record {
 
 pub returns-in-Some : goal.returns-in-Some
 returns-in-Some g c =
-    let plan = plan_of c.args.task in
-    let order = c.args.task.order in
-    let from = standing_place c.states.run in
-    let to = standing_place c.make_counted.new.run in
     let drilled = c.states.invariant.drilled in
-    let made = (rw c.in-Some.is at c.in_ok-turn.ensures.made) plan drilled.next c.states.invariant.run drilled.stands in
-    let state = drilled_in plan (order_of c.states.run) order drilled.next from to _ _ _ _ _ c.states.invariant.order made in
-    let end = drill_ends plan order from to _ _ _ _ _ drilled c.in-Some.turn state in
+    let made = (rw c.in-Some.is at c.in_ok-turn.ensures.made) (plan_of c.args.task) drilled.next c.states.invariant.run drilled.stands in
+    let state = drilled_in (plan_of c.args.task) (order_of c.states.run) c.args.task.order _ _ _ _ _ _ _ _ c.states.invariant.order made in
+    let end = drill_ends _ _ _ _ _ _ _ _ _ drilled c.in-Some.turn state in
     record { pictures = end.pictures; run = end.run; program_is = (c.in_ok-turn.ensures.run _ c.states.invariant.run).program; store = end.holds; tried = end.tried; totals_are = end.totals_are }
 
 pub states-preserved : goal.states-preserved
 states-preserved g c =
-    let plan = plan_of c.args.task in
-    let order = c.args.task.order in
-    let from = standing_place c.states.run in
-    let to = standing_place c.make_counted.new.run in
     let drilled = c.states.invariant.drilled in
-    let made = (rw c.in_default.is at c.in_ok-turn.ensures.made) plan drilled.next c.states.invariant.run drilled.stands in
-    let state = drilled_in plan (order_of c.states.run) order drilled.next from to _ _ _ _ _ c.states.invariant.order made in
+    let made = (rw c.in_default.is at c.in_ok-turn.ensures.made) (plan_of c.args.task) drilled.next c.states.invariant.run drilled.stands in
+    let state = drilled_in (plan_of c.args.task) (order_of c.states.run) c.args.task.order _ _ _ _ _ _ _ _ c.states.invariant.order made in
     record {
-      drilled = HasDrilled-more plan order from to _ _ _ _ _ drilled state;
+      drilled = HasDrilled-more _ _ _ _ _ _ _ _ _ drilled state;
       run = c.in_ok-turn.ensures.run _ c.states.invariant.run;
       order = c.in_ok-turn.ensures.order ∙ c.states.invariant.order;
     }
 
 pub states-smaller : goal.states-smaller
 states-smaller g c =
-    let plan = plan_of c.args.task in
-    let order = c.args.task.order in
-    let from = standing_place c.states.run in
-    let to = standing_place c.make_counted.new.run in
     let drilled = c.states.invariant.drilled in
-    let made = (rw c.in_default.is at c.in_ok-turn.ensures.made) plan drilled.next c.states.invariant.run drilled.stands in
-    let state = drilled_in plan (order_of c.states.run) order drilled.next from to _ _ _ _ _ c.states.invariant.order made in
-    let next = drills_next plan order from to _ _ _ _ _ drilled state in
+    let made = (rw c.in_default.is at c.in_ok-turn.ensures.made) (plan_of c.args.task) drilled.next c.states.invariant.run drilled.stands in
+    let state = drilled_in (plan_of c.args.task) (order_of c.states.run) c.args.task.order _ _ _ _ _ _ _ _ c.states.invariant.order made in
+    let next = drills_next _ _ _ _ _ _ _ _ _ drilled state in
     let within : next_state_of c.states.run < c.args.task.limits.states = next.within in
     omega (arith, within, next.next)
