@@ -244,38 +244,30 @@ module _ (plan : Plan) (settings : Settings) (is : IsSettingsOf plan settings) (
     abbrev Stops : Turn → Type 0
     Stops t = BecomesBy plan n m old old standing last.store t after last found
 
+    -- the state fails, by the closure's own picks
+    run_fails : (t : Turn) (end : Ending) (comes : Comes plan n m last before after end) (becomes : StateBecomes plan n m old old standing last.store t) → picks_of_state plan n m old old standing last.store t becomes ≡ comes.made.picks
+        → end_of_state plan n m old old standing last.store t becomes ≡ last → IsEndingFor t found → turn ≡ t → Stops turn
+    run_fails t end comes becomes picks leads met turn_is =
+        subst Stops (sym turn_is) (record { becomes = becomes; picks_are = picks ∙ own_picks plan n m last before after end first comes; leads_to = leads; ends = met })
+
     pub run_reaches : (kinds : List Bool) → IsSound (setting_of settings.setting) kinds last → (k : LimitKind) → found ≡ ending.Over k → standing ≡ answered (Over n k) last → turn ≡ Over n k → Stops turn
-    run_reaches kinds sound k e stand turn_is =
+    run_reaches kinds sound k e stand =
         let comes = comes_to (ending.Over k) e in
         let reached = limit_reached plan n m last before after kinds (read_so kinds sound) k comes in
-        subst Stops (sym turn_is) (record {
-          becomes = (reached.0, refl, state_within, refl, stand ∙ ap (answered (Over n k)) (sym reached.1), ap (λ (z : Moment). z.store) (sym reached.1));
-          picks_are = reached.2 ∙ own_picks plan n m last before after (ending.Over k) first comes;
-          leads_to = reached.1;
-          ends = e;
-        })
+        run_fails (Over n k) (ending.Over k) comes
+        (reached.0, refl, state_within, refl, stand ∙ ap (answered (Over n k)) (sym reached.1), ap (λ (z : Moment). z.store) (sym reached.1)) reached.2 reached.1 e
 
     pub run_clashes : (clash : Clash) → found ≡ ending.Clash clash → standing ≡ answered (Contradictory n clash) last → turn ≡ Contradictory n clash → Stops turn
     unfolding clash_met
-    run_clashes clash e stand turn_is =
+    run_clashes clash e stand =
         let comes = comes_to (ending.Clash clash) e in
-        subst Stops (sym turn_is) (record {
-          becomes = (clash_met plan n m last before after clash comes, refl, state_within, refl, stand, refl);
-          picks_are = own_picks plan n m last before after (ending.Clash clash) first comes;
-          leads_to = refl;
-          ends = e;
-        })
+        run_fails (Contradictory n clash) (ending.Clash clash) comes (clash_met plan n m last before after clash comes, refl, state_within, refl, stand, refl) refl refl e
 
     pub run_misses : (port : List ℕ) → found ≡ ending.Missing port → standing ≡ answered (InputMissing n port) last → turn ≡ InputMissing n port → Stops turn
     unfolding input_missed
-    run_misses port e stand turn_is =
+    run_misses port e stand =
         let comes = comes_to (ending.Missing port) e in
-        subst Stops (sym turn_is) (record {
-          becomes = (input_missed plan n m last before after port comes, refl, state_within, refl, stand, refl);
-          picks_are = own_picks plan n m last before after (ending.Missing port) first comes;
-          leads_to = refl;
-          ends = e;
-        })
+        run_fails (InputMissing n port) (ending.Missing port) comes (input_missed plan n m last before after port comes, refl, state_within, refl, stand, refl) refl refl e
 
   -- a clash is one of variables of the store
   pub run_clashes_named : (kinds : List Bool) → IsSound (setting_of settings.setting) kinds last → (clash : Clash) → found ≡ ending.Clash clash → TurnIsOf last.store.variables (Contradictory n clash)
@@ -373,6 +365,17 @@ run_setting plan run h =
 -- how many variables a run's program has
 pub globals_are : (plan : Plan) (run : Run) → IsRunOf plan run → length run.program.globals ≡ globals_of plan
 globals_are plan run h = sym (length-map run.program.globals is_lower) ∙ ap (λ (p : ProgramTree). length (kinds_of p.globals)) h.program
+
+-- settings that read a state as a run does are those of its plan
+pub settings_of_run : (plan : Plan) (run : Run) (settings : Settings) → IsRunOf plan run → settings.limits ≡ run.limits → inputs_of settings.setting.inputs.now ≡ inputs_of run.inputs
+    → definitions_of settings.setting.defs.now ≡ definitions_of run.program.defs → settings.globals ≡ length run.program.globals → IsSettingsOf plan settings
+settings_of_run plan run settings h limits inputs definitions globals = record {
+  inputs = inputs ∙ h.inputs;
+  states = ap (λ z. z.states) limits ∙ h.states;
+  reductions = ap (λ z. z.reductions) limits ∙ h.reductions;
+  globals = globals ∙ globals_are plan run h;
+  definitions = definitions ∙ ap (λ (p : ProgramTree). p.defs) h.program;
+}
 
 -- what the answer for a state leaves
 module _ (plan : Plan) (run : Run) (is_run : IsRunOf plan run) (m : Moment) (opened : open_at m ≡ standing_of run) (old new : Picture) (store : Contents) (stand : Stand) (turn : Turn)

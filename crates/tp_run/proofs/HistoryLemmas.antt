@@ -10,8 +10,6 @@ use Rattle.tp_meaning.proofs.Shows.{join-assoc as join_assoc, join-blank}
 use Rattle.tp_store.specs.Facts.{AgreesWithAll}
 use Rattle.tp_store.specs.Known.{Contents, facts_below}
 use Rattle.tp_decide.specs.Read.{shows_of}
-use Rattle.tp_kernel.specs.declared.fault.LimitKind.{LimitKind}
-use Rattle.tp_scene.specs.declared.answer.Cell.{Cell}
 use Rattle.tp_scene.specs.declared.answer.Clash.{Clash}
 use Rattle.tp_scene.specs.Pick.{Moment, Leads}
 use Rattle.tp_scene.specs.StandsFor.{StandsFor, context_of}
@@ -184,21 +182,9 @@ abbrev pub lead_more : (plan : Plan) (n : ℕ) (r : Moment) (ps : List Picture) 
 lead_more plan n r [] m k p next e h g = (next, goes_there plan n k r m p next (index_there k n e) h g, refl)
 lead_more plan n r (q ∷ ps) m k p next e h g = (h.0, h.1, lead_more plan (suc n) h.0 ps m k p next (index_next k (length ps) n e) h.2 g)
 
--- an end of state n with what it leads to, told of another name of n
-module _ (plan : Plan) (k n : ℕ) (e : k ≡ n) (m : Moment) where
-  pub meets_there : (clash : Clash) (h : replay.MeetsClash (setting plan k) plan.reductions m clash) → (g : replay.MeetsClash (setting plan n) plan.reductions m clash) × (h.last ≡ g.last)
-  meets_there clash h = subst (λ i. (g : replay.MeetsClash (setting plan i) plan.reductions m clash) × (h.last ≡ g.last)) e (h, refl)
-
-  pub opens_there : (cell : Cell) (h : replay.IsOpen (setting plan k) plan.reductions m cell) → (g : replay.IsOpen (setting plan n) plan.reductions m cell) × (h.last ≡ g.last)
-  opens_there cell h = subst (λ i. (g : replay.IsOpen (setting plan i) plan.reductions m cell) × (h.last ≡ g.last)) e (h, refl)
-
-  pub misses_there : (port : List ℕ) (h : replay.MissesInput (setting plan k) plan.reductions m port) → (g : replay.MissesInput (setting plan n) plan.reductions m port) × (h.last ≡ g.last)
-  misses_there port h = subst (λ i. (g : replay.MissesInput (setting plan i) plan.reductions m port) × (h.last ≡ g.last)) e (h, refl)
-
-  pub reaches_there : (limit : LimitKind) (h : ReachesLimit (setting plan k) plan.reductions m limit)
-      → (g : ReachesLimit (setting plan n) plan.reductions m limit) × (limit_moment (setting plan k) plan.reductions m limit h ≡ limit_moment (setting plan n) plan.reductions m limit g)
-  reaches_there limit h =
-      subst (λ i. (g : ReachesLimit (setting plan i) plan.reductions m limit) × (limit_moment (setting plan k) plan.reductions m limit h ≡ limit_moment (setting plan i) plan.reductions m limit g)) e (h, refl)
+-- an end of a state with what it leads to, told of another name of the state's number
+abbrev end_there : (At : ℕ → Type 0) (last : (i : ℕ) → At i → Moment) (k n : ℕ) → k ≡ n → (h : At k) → (g : At n) × (last k h ≡ last n g)
+end_there At last k n e h = subst (λ i. (g : At i) × (last k h ≡ last i g)) e (h, refl)
 
 -- the store of one moment is that of an equal one
 pub kept_there : (store : Contents) (a b : Moment) → a ≡ b → store ≡ a.store → store ≡ b.store
@@ -208,6 +194,17 @@ kept_there store a b e h = h ∙ ap (λ (z : Moment). z.store) e
 pub stands_there : (to : RunPlace) (turn : Turn) (a b : Moment) → a ≡ b → to.standing ≡ answered turn a → to.store ≡ a.store
     → (to.standing ≡ answered turn b) × (to.store ≡ b.store)
 stands_there to turn a b e stand store = (stand ∙ ap (answered turn) e, kept_there to.store a b e store)
+
+-- a run ends in a state that was begun
+abbrev ends_begun : (plan : Plan) (ps : List Picture) (m : Moment) → LeadsTo plan ps m → (old new : Picture) (to : RunPlace) (turn : Turn)
+    → (At : Moment → ℕ → Type 0) (last : (z : Moment) (i : ℕ) → At z i → Moment) (state : ℕ)
+    → ((h : At m (length ps)) × (state ≡ length ps) × (length ps < plan.states) × (new ≡ old) × (to.standing ≡ answered turn (last m (length ps) h)) × (to.store ≡ (last m (length ps) h).store))
+    → (end : (z : Moment) × LeadsTo plan ps z × At z state × (state ≡ length ps) × (state < plan.states)) × (new ≡ old)
+    × ((to.standing ≡ answered turn (last end.0 state end.2)) × (to.store ≡ (last end.0 state end.2).store))
+ends_begun plan ps m leads old new to turn At last state w =
+    let e = w.1 in
+    let g = end_there (At m) (last m) (length ps) state (sym e) w.0 in
+    ((m, leads, g.0, e, subst (λ i. i < plan.states) (sym e) w.2), w.3, stands_there to turn (last m (length ps) w.0) (last m state g.0) g.1 w.4 w.5)
 
 pub count_more : (ps : List Picture) (new : Picture) (n : ℕ) → n ≡ suc (length ps) → n ≡ length (ps ++ new ∷ [])
 count_more ps new n e = e ∙ omega (arith, length-append ps (new ∷ []))
@@ -223,26 +220,14 @@ advance_by plan ps m leads old new to Went w next =
 advance_by plan ps m leads old new to (Finished n) w next =
     (record { before = ps; final = new; moment = m; pictures = refl; leads = leads; ends = w.0; count = w.1 }, w.0.picture_is.state, (w.2, w.3))
 advance_by plan ps m leads old new to (Contradictory state clash) w next =
-    let e = w.1 in
-    let g = meets_there plan (length ps) state (sym e) m clash w.0 in
-    ((m, leads, g.0, e, subst (λ i. i < plan.states) (sym e) w.2), w.3, stands_there to (Contradictory state clash) w.0.last g.0.last g.1 w.4 w.5)
+    ends_begun plan ps m leads old new to (Contradictory state clash) (λ z i. replay.MeetsClash (setting plan i) plan.reductions z clash) (λ z i h. h.last) state w
 advance_by plan ps m leads old new to (Undetermined state cell) w next =
-    let e = w.1 in
-    let g = opens_there plan (length ps) state (sym e) m cell w.0 in
-    ((m, leads, g.0, e, subst (λ i. i < plan.states) (sym e) w.2), w.3, stands_there to (Undetermined state cell) w.0.last g.0.last g.1 w.4 w.5)
+    ends_begun plan ps m leads old new to (Undetermined state cell) (λ z i. replay.IsOpen (setting plan i) plan.reductions z cell) (λ z i h. h.last) state w
 advance_by plan ps m leads old new to (StateLimit states) w next = ((m, leads, w.1, w.1 ∙ w.0), w.2, (w.3, w.4))
 advance_by plan ps m leads old new to (InputMissing state port) w next =
-    let e = w.1 in
-    let g = misses_there plan (length ps) state (sym e) m port w.0 in
-    ((m, leads, g.0, e, subst (λ i. i < plan.states) (sym e) w.2), w.3, stands_there to (InputMissing state port) w.0.last g.0.last g.1 w.4 w.5)
+    ends_begun plan ps m leads old new to (InputMissing state port) (λ z i. replay.MissesInput (setting plan i) plan.reductions z port) (λ z i h. h.last) state w
 advance_by plan ps m leads old new to (Over state limit) w next =
-    let e = w.1 in
-    let g = reaches_there plan (length ps) state (sym e) m limit w.0 in (
-      (m, leads, g.0, e, subst (λ i. i < plan.states) (sym e) w.2),
-      w.3,
-      stands_there to (Over state limit) (limit_moment (setting plan (length ps)) plan.reductions m limit w.0) (limit_moment (setting plan state) plan.reductions m limit g.0)
-          g.1 w.4 w.5,
-    )
+    ends_begun plan ps m leads old new to (Over state limit) (λ z i. ReachesLimit (setting plan i) plan.reductions z limit) (λ z i. limit_moment (setting plan i) plan.reductions z limit) state w
 
 pub runs_advance : (plan : Plan) → RunsAdvance plan
 runs_advance plan = record { begins = refl; goes_on = advance_by plan }

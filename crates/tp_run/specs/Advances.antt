@@ -1,5 +1,5 @@
 -- What one more state makes of a run, and what the end of each run says.
-use Rattle.std.specs.Prelude.{◌≡◌, ℕ, List, [], ◌∷◌, ◌++◌, length}
+use Rattle.std.specs.Prelude.{◌≡◌, List, [], ◌∷◌, ◌++◌, length}
 use Rattle.tp_meaning.specs.Fits.{ProgramFits}
 use Rattle.tp_scene.specs.Pick.{Moment}
 use Rattle.tp_scene.specs.Beginning.{first_moment}

@@ -23,6 +23,7 @@ use Rattle.tp_run.specs.Same.{SameEnd, FailsNowhere}
 use Rattle.tp_run_laws.specs.Agree.{IsOrderlyPlan}
 use Rattle.tp_run_laws.specs.Beginnings.{RunGoesOnFrom, BeginningsGoOn}
 use Rattle.tp_run.proofs.OneState.{kinds, Orderly, ClosesBy, EndsAt, one_way, end_alike, settle, cant_go, next_orderly, first_orderly, itself}
+use Rattle.tp_run_laws.proofs.Walk.{end_at}
 use Rattle.tp_run_laws.proofs.Agree.{Parts, parts, agree}
 
 -- the store with which the next state may begin
@@ -170,6 +171,23 @@ module _ (plan : Plan) where
   abbrev further_picks : (n : ℕ) (m : Moment) → Further n m → List (List ℕ)
   further_picks n m f = picks_led plan n m f.before f.last f.leads ++ last_picks f.count f.last f.tail f.turn f.safe f.end
 
+  none_before : (n : ℕ) → n ≡ length {A = Picture} [] + n
+  none_before n = omega arith
+
+  -- a run that ends in this state
+  abbrev ends_at_once : (n : ℕ) (m : Moment) (tail : List Picture) (turn : Turn) → FailsNowhere turn → EndsAt plan n m tail turn → Further n m
+  ends_at_once n m tail turn safe end = record {
+    before = [];
+    last = m;
+    leads = refl;
+    count = n;
+    counts = none_before n;
+    tail = tail;
+    turn = turn;
+    safe = safe;
+    end = end;
+  }
+
   -- one of which the first picks begin with these
   record Onward (n : ℕ) (m : Moment) (begun : List ℕ) : Type 0 where
     further : Further n m
@@ -184,17 +202,7 @@ module _ (plan : Plan) where
     end_onward tail (Finished k) safe x l =
         let e = ends_too n m m' om om' a begun there led x.0 x.2 in
         record {
-          further = record {
-            before = [];
-            last = m';
-            leads = refl;
-            count = n;
-            counts = omega arith;
-            tail = x.0 ∷ [];
-            turn = Finished n;
-            safe = tt;
-            end = (x.0, refl, e.ends, refl);
-          };
+          further = ends_at_once n m' (x.0 ∷ []) (Finished n) tt (x.0, refl, e.ends, refl);
           more = e.more;
           picks_later = [];
           picks = ap (λ ps. ps ∷ []) e.picks_are;
@@ -203,17 +211,7 @@ module _ (plan : Plan) where
     end_onward tail (Undetermined state cell) safe x l =
         let o = open_too n m m' om om' a begun there led cell x.1 in
         record {
-          further = record {
-            before = [];
-            last = m';
-            leads = refl;
-            count = n;
-            counts = omega arith;
-            tail = [];
-            turn = Undetermined n o.cell;
-            safe = tt;
-            end = (refl, o.is_open, refl, l);
-          };
+          further = ends_at_once n m' [] (Undetermined n o.cell) tt (refl, o.is_open, refl, l);
           more = o.more;
           picks_later = [];
           picks = ap (λ ps. ps ∷ []) o.picks_are;
@@ -253,32 +251,14 @@ module _ (plan : Plan) where
   ends_further n m m' om om' a tail (Contradictory state clash) safe x = absurd safe
   ends_further n m m' om om' a tail (Undetermined state cell) safe x =
       (end_onward n m m' om om' a [] m' refl tail (Undetermined state cell) safe x x.3).further
-  ends_further n m m' om om' a tail (StateLimit states) safe x =
-      record {
-        before = [];
-        last = m';
-        leads = refl;
-        count = n;
-        counts = omega arith;
-        tail = [];
-        turn = StateLimit n;
-        safe = tt;
-        end = (refl, refl, x.2);
-      }
+  ends_further n m m' om om' a tail (StateLimit states) safe x = ends_at_once n m' [] (StateLimit n) tt (refl, refl, x.2)
   ends_further n m m' om om' a tail (InputMissing state port) safe x = absurd safe
   ends_further n m m' om om' a tail (Over state l) safe x = absurd safe
-
-  -- where an end stands, by the numbers and the moment that it is said of
-  end_at : (n k : ℕ) → k ≡ 0 + n → (m last : Moment) → last ≡ m → (tail : List Picture) (turn : Turn) → EndsAt plan k last tail turn
-      → EndsAt plan n m tail turn
-  end_at n k e m last q tail turn x =
-      let f : k ≡ n = omega (arith, e) in
-      subst (λ (z : Moment). EndsAt plan n z tail turn) q (subst (λ (i : ℕ). EndsAt plan i last tail turn) f x)
 
   follow : (rs : List Picture) (n : ℕ) (m m' last : Moment) → Orderly plan n m → Orderly plan n m' → Alike (length (kinds plan)) m m'
       → StatesLead plan n m rs last → (k : ℕ) → k ≡ length rs + n
       → (tail : List Picture) (turn : Turn) → FailsNowhere turn → EndsAt plan k last tail turn → Further n m'
-  follow [] n m m' last om om' a h k e tail turn safe x = ends_further n m m' om om' a tail turn safe (end_at n k e m last h tail turn x)
+  follow [] n m m' last om om' a h k e tail turn safe x = ends_further n m m' om om' a tail turn safe (end_at plan n k e m last h tail turn x)
   follow (p ∷ rs) n m m' last om om' a h k e tail turn safe x =
       (step_onward n m m' om om' a [] m' refl p h.0 h.1
       (λ next' on b. follow rs (suc n) h.0 next' last (next_orderly plan n m h.0 p om h.1) on b h.2 k (omega (arith, e)) tail turn safe x)).further
@@ -288,7 +268,7 @@ module _ (plan : Plan) where
       → (tail : List Picture) (turn : Turn) → FailsNowhere turn → EndsAt plan k last tail turn
       → n < plan.states → (begun : List ℕ) (there : Moment) → Leads (setting plan n) m' begun there → Onward n m' begun
   onward [] n m m' last om om' a h k e tail turn safe x l begun there led = end_onward n m m' om om' a begun there led tail turn safe
-      (end_at n k e m last h tail turn x) l
+      (end_at plan n k e m last h tail turn x) l
   onward (p ∷ rs) n m m' last om om' a h k e tail turn safe x l begun there led =
       step_onward n m m' om om' a begun there led p h.0 h.1
       (λ next' on b. follow rs (suc n) h.0 next' last (next_orderly plan n m h.0 p om h.1) on b h.2 k (omega (arith, e)) tail turn safe x)
@@ -319,7 +299,7 @@ module _ (plan : Plan) where
         counts = omega (arith, e, d);
       }
   align (p ∷ ps) [] n m m' last last' om om' a h leads k e j d tail turn x =
-      absurd (cant_go plan n m m' om om' a tail turn (end_at n k e m last h tail turn x) p leads.0 leads.1)
+      absurd (cant_go plan n m m' om om' a tail turn (end_at plan n k e m last h tail turn x) p leads.0 leads.1)
   align (p ∷ ps) (r ∷ rs) n m m' last last' om om' a h leads k e j d tail turn x =
       let g = h.1 in
       let g' = leads.1 in

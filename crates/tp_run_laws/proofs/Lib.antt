@@ -1,3 +1,4 @@
+pub mod Walk
 pub mod Agree
 pub mod AlikeRuns
 pub mod Beginnings

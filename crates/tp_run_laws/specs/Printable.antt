@@ -1,6 +1,6 @@
 -- What can be printed so that a trace is read from it: names on one line, and numbers and paths
 -- within the limits.
-use Rattle.std.specs.Prelude.{List, [], ◌∷◌, All, IfSome}
+use Rattle.std.specs.Prelude.{[], ◌∷◌, All, IfSome}
 use Rattle.tp_value.specs.Number.{IsNumber}
 use Rattle.tp_value.specs.Limits.{HasNumbers, IsWithinLimits}
 use Rattle.tp_meaning.specs.Syntax.{ExprTree, ExprTrees, numeral, boolean, known, bound, global, listing, size, index, minus, negation, both, either, binary, choice, invoke, no_expr, expr_then, FormulaTree, FormulaTrees, trivial, test, equation, next_equation, empty, more, next, weak_next, if_more, if_empty, always, conjunction, branch, len, assign, chop, while, for_from, forall_from, project, exists, call, input, display, no_formula, formula_then, Definition, BindingTree, place_binding, known_binding}
