@@ -4,15 +4,9 @@
 #[cfg(test)]
 mod agenda;
 #[cfg(test)]
-mod answers;
-#[cfg(test)]
-mod definitions;
-#[cfg(test)]
 mod devices;
 #[cfg(test)]
 mod expected;
-#[cfg(test)]
-mod formulas;
 #[cfg(test)]
 mod inputs;
 #[cfg(test)]
@@ -33,8 +27,6 @@ mod planes;
 mod programs;
 #[cfg(test)]
 mod sources;
-#[cfg(test)]
-mod spelling;
 #[cfg(test)]
 mod steps;
 #[cfg(test)]

@@ -18,8 +18,8 @@ use std::test::Fail;
 use tp_check::Program;
 use tp_inputs::Inputs;
 use tp_step::{
-    ItemIds, News, Scene, Setting, Settled, Shows, Steps, Tried, advance, has_item, items, mark,
-    settled, shown, start, try_item,
+    ItemIds, News, Scene, Setting, Shows, Steps, Tried, has_item, items, mark, settled, shown,
+    start, try_item,
 };
 use tp_store::Store;
 use tp_value::NoMemory;
@@ -162,53 +162,13 @@ fn tries<L: Ledger>(
     Ok(out)
 }
 
-// The scene of the next state, which is read with the setting that it leaves.
-fn go_on(scene: Scene, store: &mut Store, setting: &mut Setting) -> Result<Scene, Fail>
-    requires kept { IsWellKept scene }
-    requires sound { (kinds : List Bool)
-        × IsSound (setting_of setting.old) kinds (moment_of scene store.old) }
-    ensures kept { IfOk result IsWellKept }
-    ensures sound { IfOk result (λ next.
-        (kinds : List Bool) × IsSound (setting_of setting.new) kinds (moment_of next store.new)) }
-{
-    match settled(&scene) {
-        Settled::Goes => {
-            store.next_state();
-            let next = advance(setting.alloc, scene)?;
-            setting.state = 1;
-            Ok(next)
-        }
-        Settled::Waiting(_) => Err("an item waits".into()),
-        Settled::EndOpen => Err("open".into()),
-        Settled::Ends => Err("at the end".into()),
-    }
-}
-
-// The second state of a run.
-fn tell_next<L: Ledger>(
-    scene: Scene,
-    store: &mut Store,
-    picks: &[u8],
-    setting: &mut Setting,
-    room: u64,
-    steps: &mut Steps<L>,
-) -> Result<String, Fail>
-    requires kept { IsWellKept scene }
-    requires sound { (kinds : List Bool)
-        × IsSound (setting_of setting.old) kinds (moment_of scene store.old) }
-{
-    let mut next = go_on(scene, store, setting)?;
-    tries(&mut next, store, picks, setting, room, steps)
-}
-
-// The first state of a run, and the second one where there are picks for it.
+// The first state of a run.
 fn told<L: Ledger>(
     alloc: Global,
     blank: Blank,
     program: Program,
-    first: &[u8],
+    picks: &[u8],
     room: u64,
-    second: Option<&[u8]>,
 ) -> Result<String, Fail>
     requires name { blank.name ≡ L.name }
     requires parts { blank.parts ≡ L.parts }
@@ -217,27 +177,14 @@ fn told<L: Ledger>(
 {
     let mut steps = Steps::<L>::new(blank);
     let inputs = Inputs::none(alloc)?;
-    let (mut scene, mut store, mut setting) = begin(alloc, &program, &inputs)?;
-    let mut out = tries(&mut scene, &mut store, first, &setting, room, &mut steps)?;
-    let Some(second) = second else {
-        return Ok(out);
-    };
-    let then = tell_next(scene, &mut store, second, &mut setting, room, &mut steps)?;
-    out.push_str(" then ")?;
-    out.push_str(then.as_str())?;
-    Ok(out)
+    let (mut scene, mut store, setting) = begin(alloc, &program, &inputs)?;
+    tries(&mut scene, &mut store, picks, &setting, room, &mut steps)
 }
 
 // The same of a source, by steps that count their tries by themselves.
-fn told_items(
-    alloc: Global,
-    source: &str,
-    first: &[u8],
-    room: u64,
-    second: Option<&[u8]>,
-) -> Result<String, Fail> {
+fn told_items(alloc: Global, source: &str, picks: &[u8], room: u64) -> Result<String, Fail> {
     let program = program_of(alloc, source)?;
-    told::<Brand>(alloc, Blank::new(1), program, first, room, second)
+    told::<Brand>(alloc, Blank::new(1), program, picks, room)
 }
 
 // A program, the items that are tried, how many reductions are left at each, and what is answered.
@@ -298,26 +245,13 @@ run empty proj more. | 01234 | 9 | \
 run empty proj empty. | 012 | 9 | 2+0 2, 0+0! 1, rests 1, Ends Ends 1:Ends
 ";
 
-// A program, the items that are tried in the first state and in the second, and what is answered.
-const STATES: &str = "
-run len(1). | 01 | 01 | 1+0 1, 1+0! 1, Goes Goes then 1+0 1, 0+0! 0, Ends Ends
-run next A = 1. | 012 | 0 | 2+0 2, 0+0! 1, 1+0! 1, Goes Goes then 0+1 0, EndOpen Open
-run next true. | 0 |  | 1+0! 1, Goes Goes then Waiting(0) Open
-define p(X) = skip and next (X = 1). run p(A). | 0123 | 10 | \
-    1+0 1, 2+0 2, 1+0! 2, 1+0! 2, Goes Goes then 0+1 1, 0+0! 0, Ends Ends
-run len(1) ; true. | 013 | 0213 | \
-    2+0 2, 1+0 2, 1+0! 2, Goes Goes 1:Goes then 1+0 2, 0+0! 1, 2+0 2, rests 2, Waiting(4) Open 1:Ends
-run skip proj skip. | 01245 | 0124 | \
-    2+0 2, 1+0! 2, 3+0 4, 1+0! 4, 0+0! 3, Goes Goes 1:Goes 2:Goes then 0+0! 1, 3+0 3, 0+0! 2, rests 2, Ends Ends 1:Ends 2:Ends
-";
-
 fn expect(rt: &(impl Abort + AllocGlobal), row: &str) -> Result<(), Fail> {
     let row = parts(rt.alloc(), row, '|')?;
     let [source, picks, room, expected] = row.as_slice() else {
         return Err("no row".into());
     };
     let room = u64::from(number(room)?);
-    let text = told_items(rt.alloc(), source, picks.as_bytes(), room, None)?;
+    let text = told_items(rt.alloc(), source, picks.as_bytes(), room)?;
     same_text(rt, text.as_str(), expected, source);
     Ok(())
 }
@@ -328,25 +262,6 @@ fn items_are_reduced(rt: HostRuntime) -> Result<(), Fail> {
         for row in table.trim().lines() {
             expect(&rt, row)?;
         }
-    }
-    Ok(())
-}
-
-fn expect_next(rt: &(impl Abort + AllocGlobal), row: &str) -> Result<(), Fail> {
-    let row = parts(rt.alloc(), row, '|')?;
-    let [source, first, second, expected] = row.as_slice() else {
-        return Err("no row".into());
-    };
-    let second = Some(second.as_bytes());
-    let text = told_items(rt.alloc(), source, first.as_bytes(), 9, second)?;
-    same_text(rt, text.as_str(), expected, source);
-    Ok(())
-}
-
-#[test]
-fn a_state_goes_on(rt: HostRuntime) -> Result<(), Fail> {
-    for row in STATES.trim().lines() {
-        expect_next(&rt, row)?;
     }
     Ok(())
 }

@@ -3,56 +3,50 @@ ghost use Rattle.std.specs.Prelude.{◌≡◌, ◌∷◌, [], IfOk, false};
 ghost use Rattle.tp_store.specs.Known.{IsVariableOf, global_variable};
 
 use crate::expected::{holds, same_number, same_text};
-use crate::making::{nested, one_variable, path, sixes};
-use crate::tables::{cut, number, parts};
+use crate::making::{one_variable, path, sixes};
+use crate::tables::{number, parts};
 use std::alloc::Global;
 use std::process::Abort;
 use std::test::Fail;
 use tp_store::{AddRefusal, Known, Store};
-use tp_value::{Facts, NoMemory, Number, Path, Text, Value};
+use tp_value::{Facts, NoMemory, Path, Text, Value, read_value};
 
-// What is added: a number, a truth value, a list of so many numbers, a number in so many lists, or only the length of a list.
-#[derive(Clone, Copy)]
+// What is added: a value, or the length of a list, of which nothing else is known.
+#[derive(Drop)]
 enum Added {
-    Num(u32),
-    Truth(bool),
-    Sixes(usize),
-    Nested(usize),
+    Value(Value),
     Length(u32),
 }
 
-use Added::{Length, Nested, Num, Sixes, Truth};
-
-fn value(alloc: Global, added: Added) -> Result<Value, NoMemory> {
-    match added {
-        Added::Num(n) => Ok(Value::Num(Number::from(n))),
-        Added::Truth(b) => Ok(Value::Truth(b)),
-        Added::Sixes(count) => sixes(alloc, count),
-        Added::Nested(depth) => nested(alloc, depth),
-        Added::Length(_) => Ok(Value::Truth(false)),
+// A value as it is written, or `length` and a number.
+fn thing_to_add(alloc: Global, text: &str) -> Result<Added, Fail> {
+    if let Some(length) = text.strip_prefix("length ") {
+        return Ok(Added::Length(number(length)?));
+    }
+    match read_value(alloc, text.as_bytes(), 0) {
+        Ok((value, _)) => Ok(Added::Value(value)),
+        Err(_) => Err("nothing to add".into()),
     }
 }
 
-fn put(alloc: Global, store: &mut Store, path: &Path, added: Added) -> Result<Facts, AddRefusal>
+fn put(store: &mut Store, path: &Path, added: &Added) -> Result<Facts, AddRefusal>
     requires { IsVariableOf store.old.variables path.now.var }
     ensures { store.new.variables ≡ store.old.variables }
 {
-    if let Added::Length(n) = added {
-        return store.add_length(path, n);
+    match added {
+        Added::Value(value) => store.add(path, value),
+        Added::Length(n) => store.add_length(path, *n),
     }
-    let value = value(alloc, added)?;
-    store.add(path, &value)
 }
 
 // The same without adding anything.
-fn ask(alloc: Global, store: &Store, path: &Path, added: Added) -> Result<(), AddRefusal>
+fn ask(store: &Store, path: &Path, added: &Added) -> Result<(), AddRefusal>
     requires { IsVariableOf store.now.variables path.now.var }
 {
-    if let Added::Length(n) = added {
-        return store.check_length(path, n);
+    match added {
+        Added::Value(value) => store.check(path, value),
+        Added::Length(n) => store.check_length(path, *n),
     }
-    let value = value(alloc, added)?;
-    store.check(path, &value)
 }
 
 // Of how many indices the kept and the new fact of a clash are.
@@ -94,32 +88,21 @@ fn known(alloc: Global, known: &Known) -> Result<String, NoMemory> {
 
 // A place, what is added there, what the store says when it is asked and when it is done, and a place and what is known there then.
 const FILLED: &str = "
-A[1] | number 7 | free | 1 new | A | open at []
+A[1] | 7 | free | 1 new | A | open at []
 A | length 1 | 1 against 0 | 1 against 0 | A | open at []
 A | length 2 | free | 1 new | A | open at [0]
 A | length 2 | free | 0 new | A | open at [0]
-A[2] | number 7 | 0 against 1 | 0 against 1 | A[2] | absent
-A[0] | number 8 | free | 1 new | A | known
-A[1] | number 8 | 1 against 1 | 1 against 1 | A | known
-A | number 8 | 0 against 0 | 0 against 0 | A | known
+A[2] | 7 | 0 against 1 | 0 against 1 | A[2] | absent
+A[0] | 8 | free | 1 new | A | known
+A[1] | 8 | 1 against 1 | 1 against 1 | A | known
+A | 8 | 0 against 0 | 0 against 0 | A | known
 ";
 
 const LISTED: &str = "
-A | sixes 2 | free | 3 new | A[1] | known
-A[0] | number 6 | free | 0 new | A[0][0] | absent
-A[0] | truth 1 | 1 against 1 | 1 against 1 | A[2] | absent
+A | <6,6> | free | 3 new | A[1] | known
+A[0] | 6 | free | 0 new | A[0][0] | absent
+A[0] | true | 1 against 1 | 1 against 1 | A[2] | absent
 ";
-
-const TOLD: &str = "
-A | truth 1 | free | 1 new | A | known
-A | truth 1 | free | 0 new | A[0] | absent
-A | truth 0 | 0 against 0 | 0 against 0 | A | known
-";
-
-// One list, at most 100 deep, is a value; deeper ones are too long.
-const DEEP: &str = "A | nested 100 | free | 101 new | A | known";
-
-const DEEPER: &str = "A | nested 101 | free | 102 new | A | too long";
 
 // The place of the variable A that is written so.
 fn place(alloc: Global, text: &str) -> Result<Path, Fail>
@@ -131,19 +114,6 @@ fn place(alloc: Global, text: &str) -> Result<Path, Fail>
     }
     let place = path(alloc, 0, at.as_slice())?;
     Ok(place)
-}
-
-fn thing_to_add(text: &str) -> Result<Added, Fail> {
-    let (kind, count) = cut(text, " ")?;
-    let count = number(count)?;
-    match kind {
-        "number" => Ok(Num(count)),
-        "truth" => Ok(Truth(count == 1)),
-        "sixes" => Ok(Sixes(count as usize)),
-        "nested" => Ok(Nested(count as usize)),
-        "length" => Ok(Length(count)),
-        _ => Err("nothing to add".into()),
-    }
 }
 
 // Asks whether this can be added, and adds it, or not.
@@ -159,10 +129,10 @@ fn expect_added(
     ensures { store.new.variables ≡ store.old.variables }
 {
     let here = place(rt.alloc(), at)?;
-    let adding = thing_to_add(adding)?;
-    let found = ask(rt.alloc(), store, &here, adding);
+    let adding = thing_to_add(rt.alloc(), adding)?;
+    let found = ask(store, &here, &adding);
     same_text(rt, asked(rt.alloc(), found)?.as_str(), free, at);
-    let news = put(rt.alloc(), store, &here, adding);
+    let news = put(store, &here, &adding);
     same_text(rt, answered(rt.alloc(), news)?.as_str(), answer, at);
     Ok(())
 }
@@ -196,7 +166,7 @@ fn expect(rt: &(impl Abort + AllocGlobal), store: &mut Store, row: &str) -> Resu
 
 #[test]
 fn facts_are_added(rt: HostRuntime) -> Result<(), Fail> {
-    for table in [FILLED, LISTED, TOLD, DEEP, DEEPER] {
+    for table in [FILLED, LISTED] {
         let mut store = one_variable(rt.alloc())?;
         for row in table.trim().lines() {
             expect(&rt, &mut store, row)?;
@@ -216,38 +186,30 @@ fn locals_are_named(rt: HostRuntime) -> Result<(), Fail> {
 }
 
 #[test]
-fn states_go_on(rt: HostRuntime) -> Result<(), Fail> {
+fn whole_lists_are_kept(rt: HostRuntime) -> Result<(), Fail> {
     let alloc = rt.alloc();
     let mut store = one_variable(alloc)?;
     let here = path(alloc, 0, &[])?;
-    put(alloc, &mut store, &here, Num(3))?;
+    store.add(&here, &sixes(alloc, 1)?)?;
+    holds(&rt, store.kept_value(&here).is_some(), "a list");
     let mut facts = Facts {
         items: Vec::new(alloc),
     };
     store.facts(1, &mut facts)?;
-    same_number(&rt, facts.items.len() as u64, 1, "A=3");
+    same_number(&rt, facts.items.len() as u64, 2, "its facts");
     store.next_state();
     holds(&rt, store.shape(&here).is_none(), "the next state");
     Ok(())
 }
 
 #[test]
-fn whole_lists_are_kept(rt: HostRuntime) -> Result<(), Fail> {
+fn lists_by_items_are_not_kept(rt: HostRuntime) -> Result<(), Fail> {
     let alloc = rt.alloc();
     let mut store = one_variable(alloc)?;
     let here = path(alloc, 0, &[])?;
     let item = path(alloc, 0, &[0])?;
-    put(alloc, &mut store, &here, Sixes(1))?;
-    holds(&rt, store.kept_value(&here).is_some(), "a list");
-    holds(&rt, store.kept_value(&item).is_none(), "its item");
-    store.next_state();
-    holds(&rt, store.kept_value(&here).is_none(), "the next state");
-    put(alloc, &mut store, &here, Length(1))?;
-    put(alloc, &mut store, &item, Num(6))?;
-    holds(
-        &rt,
-        store.kept_value(&here).is_none(),
-        "a list item by item",
-    );
+    store.add_length(&here, 1)?;
+    store.add(&item, &Value::Num(6))?;
+    holds(&rt, store.kept_value(&here).is_none(), "a list");
     Ok(())
 }

@@ -1,18 +1,11 @@
 // Texts and their tokens, refusals and places.
 use crate::expected::{holds, refused, same_text};
-use crate::making::series;
+use crate::making::repeated;
 use crate::sources::tokens_of;
 use crate::tables::cut;
 use std::alloc::Global;
-use std::process::Abort;
 use std::test::Fail;
 use tp_lex::{Kind, place_of};
-
-const WORDS: &str = "\
-    if then else while do repeat until for forall exists define run true false and or not div mod empty more skip next \
-    always keep fin halt stable sometimes gets len list input display proj";
-
-const SYMBOLS: &str = "( ) { } [ ] < > <= >= <> = + - * ; , . : := <- |";
 
 // The number of the kind's word or symbol in its list, or 100 for a name and 101 for a number.
 fn number_of(kind: &Kind) -> u8 {
@@ -43,76 +36,63 @@ const READ: &str = "
 run A1_b=10. => 11 100 11 101 17
 a<-1<>2<=:=: => 100 20 101 10 101 8 19 18
 ifx if run_ => 100 0 100
-12ab => 101 100
-170141183460469231731687303715884105727 => 101
+12ab projproj => 101 100 100
+input display proj ( < <- | => 32 33 34 0 6 20 21
 ";
 
 #[test]
-fn reads_texts(rt: HostRuntime) -> Result<(), Fail> {
-    for (text, times) in [(WORDS, 35), (SYMBOLS, 22)] {
-        let expected = series(rt.alloc(), "#@ #", times)?;
-        let found = numbers(rt.alloc(), text)?;
-        same_text(&rt, found.as_str(), expected.as_str(), text);
-    }
+fn texts_are_tokens(rt: HostRuntime) -> Result<(), Fail> {
     for row in READ.trim().lines() {
         let (text, expected) = cut(row, "=>")?;
         let found = numbers(rt.alloc(), text)?;
         same_text(&rt, found.as_str().trim(), expected, text);
     }
-    let found = numbers(rt.alloc(), " \t\r\n/* run */ /**/")?;
-    same_text(&rt, found.as_str(), "", "blanks");
     Ok(())
 }
 
-// Texts, and why they are refused.
+// Texts, and why they are refused. What stands between two `#` is repeated so many times.
 const REFUSED: &str = "
-A @ B => BadByte { at: 2 }
-_a => BadByte { at: 0 }
-A / B => BadByte { at: 2 }
-ab /*/ => OpenComment { at: 3 }
-/* /* */ */ => BadByte { at: 10 }
-1 170141183460469231731687303715884105728 => NumberTooLarge { at: 2 }
-/* @ => OpenComment { at: 0 }
+0 times: A @ B => BadByte { at: 2 }
+0 times: ab /*/ => OpenComment { at: 3 }
+0 times: 1 170141183460469231731687303715884105728 => NumberTooLarge { at: 2 }
+65 times: A #n# => NameTooLong { at: 2 }
 ";
 
-fn expect_refusal(rt: &(impl Abort + AllocGlobal), text: &str, refusal: &str) -> Result<(), Fail> {
-    refused(rt, tokens_of(rt.alloc(), text.as_bytes()), refusal, text)
-}
-
 #[test]
-fn refuses_texts(rt: HostRuntime) -> Result<(), Fail> {
+fn other_texts_are_refused(rt: HostRuntime) -> Result<(), Fail> {
     for row in REFUSED.trim().lines() {
-        let (text, refusal) = cut(row, "=>")?;
-        expect_refusal(&rt, text, refusal)?;
+        let (text, pattern, refusal) = repeated(rt.alloc(), row)?;
+        refused(
+            &rt,
+            tokens_of(rt.alloc(), text.as_bytes()),
+            refusal,
+            pattern,
+        )?;
     }
-    let longest = series(rt.alloc(), "#n#", 64)?;
-    holds(
-        &rt,
-        tokens_of(rt.alloc(), longest.as_bytes()).is_ok(),
-        "a name",
-    );
-    let longer = series(rt.alloc(), "#n#", 65)?;
-    expect_refusal(&rt, longer.as_str(), "NameTooLong { at: 0 }")
-}
-
-// A place in the text, its line and its column.
-fn expect_place(rt: &impl Abort, text: &[u8], at: usize, place: (u32, u32)) -> Result<(), Fail> {
-    if at > text.len() || text.len() > 100 {
-        return Err("past the end".into());
-    }
-    holds(rt, place_of(text, at) == place, "a place");
     Ok(())
 }
 
+// The line and the column of a place in a short text.
+fn place_in(text: &[u8], at: usize) -> Option<(u32, u32)> {
+    if at > text.len() || text.len() > 100 {
+        return None;
+    }
+    Some(place_of(text, at))
+}
+
 #[test]
-fn tells_places(rt: HostRuntime) -> Result<(), Fail> {
+fn places_have_lines_and_columns(rt: HostRuntime) -> Result<(), Fail> {
     let text = b"a\n\nb c".as_slice();
-    expect_place(&rt, text, 0, (1, 1))?;
-    expect_place(&rt, text, 1, (1, 2))?;
-    expect_place(&rt, text, 2, (2, 1))?;
-    expect_place(&rt, text, 3, (3, 1))?;
-    expect_place(&rt, text, 5, (3, 3))?;
-    expect_place(&rt, text, 6, (3, 4))?;
+    for (at, place) in [
+        (0, (1, 1)),
+        (1, (1, 2)),
+        (2, (2, 1)),
+        (3, (3, 1)),
+        (5, (3, 3)),
+        (6, (3, 4)),
+    ] {
+        holds(&rt, place_in(text, at) == Some(place), "a place");
+    }
     let found = tokens_of(rt.alloc(), text)?;
     let last = found.items.last().ok_or("a token")?;
     let place = (last.from, last.to, last.line, last.column);

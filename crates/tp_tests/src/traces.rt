@@ -1,12 +1,10 @@
-// Texts of runs, read back as traces.
-use crate::expected::{holds, same_number, same_text};
-use crate::making::{repeated, series};
-use crate::tables::{cut, number};
+// Texts of runs, read back as traces. The script examples/text-check reads these tables, too.
+use crate::expected::{holds, same_text};
+use crate::making::repeated;
+use crate::tables::cut;
 use std::alloc::Global;
-use std::process::Abort;
 use std::test::Fail;
-use tp_show::{NamedFact, Trace, read_trace};
-use tp_value::NoMemory;
+use tp_show::{NamedFact, Trace, TraceRefusal, read_trace};
 
 // A fact: a name, indices and a shape.
 fn append_fact(alloc: Global, fact: &NamedFact, out: &mut String) -> Result<(), Fail> {
@@ -32,20 +30,17 @@ fn told(alloc: Global, trace: &Trace) -> Result<String, Fail> {
     Ok(out)
 }
 
-// The text with a line feed for each `;`.
-fn lines(alloc: Global, text: &str) -> Result<String, NoMemory> {
-    let out = text.replace(alloc, ';', "\n")?;
-    Ok(out)
-}
-
-// What is read of a text: the states, or why it is refused.
+// What is read of a text with `;` for the end of a line: the states, or the line to blame.
 fn outcome(alloc: Global, text: &str) -> Result<String, Fail> {
-    let text = lines(alloc, text)?;
-    let out = match read_trace(alloc, text.as_bytes()) {
-        Ok(trace) => told(alloc, &trace)?,
-        Err(refusal) => format!(in alloc; "{refusal:?}")?,
-    };
-    Ok(out)
+    let text = text.replace(alloc, ';', "\n")?;
+    match read_trace(alloc, text.as_bytes()) {
+        Ok(trace) => told(alloc, &trace),
+        Err(TraceRefusal::BadLine { line }) => {
+            let told = format!(in alloc; "{line}")?;
+            Ok(told)
+        }
+        Err(TraceRefusal::NoMemory) => Err("no memory".into()),
+    }
 }
 
 // Texts with `;` for the end of a line, and their states.
@@ -90,31 +85,14 @@ state 0: A=0;finished: length 0;state 1:; => 3
 state 0: A=0\r\r;state 1: => 1
 ";
 
-fn expect(rt: &(impl Abort + AllocGlobal), text: &str, expected: &str) -> Result<(), Fail> {
-    let found = outcome(rt.alloc(), text)?;
-    same_text(rt, found.as_str().trim(), expected, text);
-    Ok(())
-}
-
-fn expect_refused(rt: &(impl Abort + AllocGlobal), text: &str, line: u32) -> Result<(), Fail> {
-    let expected = format!(in rt.alloc(); "BadLine {{ line: {line} }}")?;
-    expect(rt, text, expected.as_str())
-}
-
 #[test]
-fn traces_are_read(rt: HostRuntime) -> Result<(), Fail> {
-    for row in READ.trim().lines() {
-        let (text, expected) = cut(row, "=>")?;
-        expect(&rt, text, expected)?;
-    }
-    Ok(())
-}
-
-#[test]
-fn texts_of_no_trace_are_refused(rt: HostRuntime) -> Result<(), Fail> {
-    for row in REFUSED.trim().lines() {
-        let (text, line) = cut(row, "=>")?;
-        expect_refused(&rt, text, number(line)?)?;
+fn traces_are_read_or_refused(rt: HostRuntime) -> Result<(), Fail> {
+    for table in [READ, REFUSED] {
+        for row in table.trim().lines() {
+            let (text, expected) = cut(row, "=>")?;
+            let found = outcome(rt.alloc(), text)?;
+            same_text(&rt, found.as_str().trim(), expected, text);
+        }
     }
     Ok(())
 }
@@ -138,26 +116,6 @@ fn lines_stay_within_the_limits(rt: HostRuntime) -> Result<(), Fail> {
         let (text, pattern, line) = repeated(rt.alloc(), row)?;
         let read = read_trace(rt.alloc(), text.as_bytes());
         holds(&rt, read.is_ok() == (line == "0"), pattern);
-    }
-    Ok(())
-}
-
-// A trace of many states.
-const MANY: u32 = 100_000;
-
-#[test]
-fn long_traces_are_read(rt: HostRuntime) -> Result<(), Fail> {
-    let alloc = rt.alloc();
-    let text = series(alloc, "#state @: A=@ b=1;#", MANY)?;
-    let text = lines(alloc, text.as_str())?;
-    match read_trace(alloc, text.as_bytes()) {
-        Ok(trace) => same_number(
-            &rt,
-            trace.states.len() as u64,
-            u64::from(MANY),
-            "many states",
-        ),
-        Err(_) => holds(&rt, false, "many states"),
     }
     Ok(())
 }

@@ -1,11 +1,11 @@
-// Each call that takes memory succeeds where there is enough, with the right value.
+// Each call that takes memory succeeds where there is enough, with the right value. What runs and tables of inputs can say of numbers
+// and lists stands in tests/.
 ghost use Rattle.std.specs.Prelude.{IfOk};
 ghost use Rattle.tp_value.specs.Read.{tree};
 ghost use Rattle.tp_value.specs.ShortLists.{HasShortLists};
 
-use crate::expected::{holds, refused, same_bytes, same_number, same_text};
-use crate::making::{nested, series, sixes};
-use crate::tables::{cut, number, parts};
+use crate::expected::{holds, refused, same_bytes, same_number, same_shown};
+use crate::making::{nested, repeated, sixes};
 use std::alloc::Global;
 use std::process::Abort;
 use std::test::Fail;
@@ -15,33 +15,35 @@ use tp_value::{
     remainder, same, shape_at, sum, write_value,
 };
 
-// The values 1, true, [1, true] and [1, false].
-fn values(alloc: Global) -> Result<Vec<Value>, Fail> {
-    let first = vec![in alloc; Value::Num(1), Value::Truth(true)]?;
-    let second = vec![in alloc; Value::Num(1), Value::Truth(false)]?;
-    let all = vec![in alloc;
-        Value::Num(1),
-        Value::Truth(true),
-        Value::List(Items { items: first }),
-        Value::List(Items { items: second }),
-    ]?;
-    Ok(all)
+// The list of 1 and true.
+fn pair(alloc: Global) -> Result<Value, NoMemory>
+    ensures { IfOk result (λ v. HasShortLists (tree v)) }
+{
+    let items = vec![in alloc; Value::Num(1), Value::Truth(true)]?;
+    Ok(Value::List(Items { items }))
 }
 
 #[test]
-fn values_are_copied(rt: HostRuntime) -> Result<(), Fail> {
-    let all = values(rt.alloc())?;
-    for (i, value) in all.iter().enumerate() {
-        let copy = value.copy(rt.alloc())?;
-        for (j, other) in all.iter().enumerate() {
-            holds(&rt, same(&copy, other) == (i == j), "a copy");
-        }
+fn elements_have_shapes_and_are_copied(rt: HostRuntime) -> Result<(), Fail> {
+    let value = pair(rt.alloc())?;
+    let table: [(&[u32], Option<Shape>); 5] = [
+        (&[], Some(Shape::Items(2))),
+        (&[0], Some(Shape::Num(1))),
+        (&[1], Some(Shape::Truth(true))),
+        (&[2], None),
+        (&[0, 0], None),
+    ];
+    for (at, shape) in table {
+        holds(&rt, shape_at(&value, at) == shape, "a shape");
     }
+    let copy = value.copy(rt.alloc())?;
+    holds(&rt, same(&copy, &value), "a copy");
+    holds(&rt, !same(&copy, &Value::Truth(true)), "another value");
     Ok(())
 }
 
-// A fact of a static variable is copied.
-fn expect_fact(rt: &(impl Abort + AllocGlobal)) -> Result<(), Fail> {
+#[test]
+fn facts_are_copied(rt: HostRuntime) -> Result<(), Fail> {
     let items = vec![in rt.alloc(); 4u32, 0]?;
     let var = VarId {
         number: 3,
@@ -52,52 +54,36 @@ fn expect_fact(rt: &(impl Abort + AllocGlobal)) -> Result<(), Fail> {
         path: Path { var, at },
         shape: Shape::Items(2),
     };
-    let copy = fact.copy()?;
-    holds(rt, copy.path.var == var, "a copied variable");
-    holds(
-        rt,
-        copy.path.at.items.as_slice() == [4, 0].as_slice(),
-        "copied indices",
-    );
-    holds(rt, copy.shape == Shape::Items(2), "a copied shape");
-    Ok(())
+    same_shown(&rt, &fact.copy()?, &fact, "a fact")
 }
 
 // A text from these two parts.
 fn expect_text(rt: &(impl Abort + AllocGlobal), start: &str, end: &str) -> Result<(), Fail> {
-    let mut text = Text::new(rt.alloc());
-    text.append(start.as_bytes())?;
+    let mut text = Text::from_slice(rt.alloc(), start.as_bytes())?;
     text.append(end.as_bytes())?;
     let copy = text.copy()?;
     let whole = format!(in rt.alloc(); "{start}{end}")?;
-    let made = Text::from_slice(rt.alloc(), whole.as_bytes())?;
     same_bytes(rt, copy.as_slice(), whole.as_str(), start);
-    same_bytes(rt, made.as_slice(), whole.as_str(), start);
-    same_number(rt, made.len() as u64, whole.len() as u64, start);
+    same_number(rt, text.len() as u64, whole.len() as u64, start);
     Ok(())
 }
 
 #[test]
-fn texts_and_facts_are_built(rt: HostRuntime) -> Result<(), Fail> {
-    expect_text(&rt, "", "")?;
-    expect_text(&rt, "a", "")?;
-    expect_text(&rt, "", "b")?;
-    expect_text(&rt, "ab", "cd")?;
-    expect_fact(&rt)?;
-    let none = Indices::new(rt.alloc()).copy()?;
-    same_number(&rt, none.items.len() as u64, 0, "no indices");
+fn texts_are_built(rt: HostRuntime) -> Result<(), Fail> {
+    for (start, end) in [("", ""), ("a", ""), ("", "b"), ("ab", "cd")] {
+        expect_text(&rt, start, end)?;
+    }
     Ok(())
 }
 
 // Names in turn, and the variable of each.
-const NAMES: &str = "
-A => state 0
-b2 => static 1
-A => state 0
-Ab => state 2
-z => static 3
-b2 => static 1
-";
+const NAMES: [(&str, u64, bool); 5] = [
+    ("A", 0, false),
+    ("b2", 1, true),
+    ("A", 0, false),
+    ("Ab", 2, false),
+    ("b2", 1, true),
+];
 
 // Adds a name, which is then that of this variable.
 fn expect_name(
@@ -115,89 +101,48 @@ fn expect_name(
     Ok(())
 }
 
-// The variable that a row tells.
-fn variable(row: &str) -> Result<VarId, Fail> {
-    let (kind, place) = cut(row, " ")?;
-    let number = u64::from(number(place)?);
-    let lasting = kind == "static";
-    Ok(VarId { number, lasting })
-}
-
 #[test]
 fn names_are_numbered(rt: HostRuntime) -> Result<(), Fail> {
     let mut globals = Globals::new(rt.alloc())?;
-    for row in NAMES.trim().lines() {
-        let (name, row) = cut(row, "=>")?;
-        expect_name(&rt, &mut globals, name, variable(row)?)?;
+    for (name, number, lasting) in NAMES {
+        expect_name(&rt, &mut globals, name, VarId { number, lasting })?;
     }
-    same_number(&rt, globals.len(), 4, "names");
+    same_number(&rt, globals.len(), 3, "names");
     Ok(())
 }
 
+const MOST: i128 = 170_141_183_460_469_231_731_687_303_715_884_105_727;
+
+// Two numbers; their sum, difference and product; and what division gives. The least `i128` is no number, and none of a run's.
 #[test]
-fn numbers_have_a_limit(rt: HostRuntime) {
-    let most = 170_141_183_460_469_231_731_687_303_715_884_105_727;
-    let table = [
-        (2, 3, Some(5)),
-        (most, 0, Some(most)),
-        (most, 1, None),
-        (-most, 0, Some(-most)),
-        (-most, -1, None),
-        (most, -most, Some(0)),
-    ];
-    for (a, b, total) in table {
+fn numbers_are_reckoned(rt: HostRuntime) {
+    for (a, b, total, left, times) in [
+        (5, -7, Some(-2), Some(12), Some(-35)),
+        (MOST, 1, None, Some(MOST - 1), Some(MOST)),
+        (-MOST, 1, Some(1 - MOST), None, Some(-MOST)),
+        (-MOST, -1, None, Some(1 - MOST), Some(MOST)),
+        (MOST, 2, None, Some(MOST - 2), None),
+    ] {
         holds(&rt, sum(a, b) == total, "a sum");
+        holds(&rt, difference(a, b) == left, "a difference");
+        holds(&rt, product(a, b) == times, "a product");
     }
-    holds(&rt, is_number(-most), "the least number");
-    holds(&rt, !is_number(-most - 1), "one less");
+    holds(&rt, is_number(-MOST) && !is_number(-MOST - 1), "the least");
+    holds(&rt, negated(-MOST) == Some(MOST), "a negation");
+    holds(&rt, negated(-MOST - 1).is_none(), "no negation");
 }
 
 #[test]
 fn numbers_are_divided(rt: HostRuntime) {
-    let most = 170_141_183_460_469_231_731_687_303_715_884_105_727;
-    let table = [
-        (7, 2, Some(3), Some(1)),
-        (-7, 2, Some(-4), Some(1)),
+    for (a, b, whole, rest) in [
         (7, -2, Some(-4), Some(-1)),
-        (-7, -2, Some(3), Some(-1)),
-        (6, -3, Some(-2), Some(0)),
-        (-most, -1, Some(most), Some(0)),
-        (-most - 1, -1, None, Some(0)),
-        (1, -most - 1, Some(-1), Some(-most)),
-    ];
-    for (a, b, whole, rest) in table {
+        (-MOST, -1, Some(MOST), Some(0)),
+        (-MOST - 1, -1, None, Some(0)),
+        (1, -MOST - 1, Some(-1), Some(-MOST)),
+    ] {
         holds(&rt, quotient(a, b) == whole, "a quotient");
         holds(&rt, remainder(a, b) == rest, "a remainder");
     }
-}
-
-#[test]
-fn numbers_are_reckoned(rt: HostRuntime) {
-    let most = 170_141_183_460_469_231_731_687_303_715_884_105_727;
-    let table = [
-        (5, 7, Some(-2), Some(35)),
-        (-most, 1, None, Some(-most)),
-        (most, -1, None, Some(-most)),
-        (
-            13_043_817_825_332_782_213,
-            13_043_817_825_332_782_213,
-            Some(0),
-            None,
-        ),
-        (
-            -2,
-            85_070_591_730_234_615_865_843_651_857_942_052_864,
-            Some(-85_070_591_730_234_615_865_843_651_857_942_052_866),
-            None,
-        ),
-    ];
-    for (a, b, left, times) in table {
-        holds(&rt, difference(a, b) == left, "a difference");
-        holds(&rt, product(a, b) == times, "a product");
-    }
-    holds(&rt, negated(3) == Some(-3), "a negation");
-    holds(&rt, negated(-most) == Some(most), "the greatest negation");
-    holds(&rt, negated(-most - 1).is_none(), "no negation");
 }
 
 // A list of one list of so many numbers.
@@ -206,144 +151,65 @@ fn wrapped(alloc: Global, count: usize) -> Result<Value, NoMemory> {
     Ok(Value::List(Items { items }))
 }
 
-fn expect_limit(rt: &impl Abort, value: Value, within: bool) {
-    holds(rt, is_within_list_limit(&value) == within, "a list's limit");
-}
-
 #[test]
 fn lists_have_limits(rt: HostRuntime) -> Result<(), Fail> {
     for (more, within) in [(0, true), (1, false)] {
         let value = nested(rt.alloc(), DEPTH_LIMIT.saturating_add(more))?;
-        expect_limit(&rt, value, within);
-        let value = sixes(rt.alloc(), ITEM_LIMIT.saturating_add(more))?;
-        expect_limit(&rt, value, within);
+        holds(&rt, is_within_list_limit(&value) == within, "a deep list");
         let value = wrapped(rt.alloc(), (ITEM_LIMIT - 1).saturating_add(more))?;
-        expect_limit(&rt, value, within);
+        holds(&rt, is_within_list_limit(&value) == within, "a long list");
     }
     Ok(())
 }
 
-// The list of 1 and true.
-fn pair(alloc: Global) -> Result<Value, NoMemory>
-    ensures { IfOk result (λ v. HasShortLists (tree v)) }
-{
-    let items = vec![in alloc; Value::Num(1), Value::Truth(true)]?;
-    Ok(Value::List(Items { items }))
-}
-
-#[test]
-fn elements_have_shapes(rt: HostRuntime) -> Result<(), Fail> {
-    let value = pair(rt.alloc())?;
-    let table: [(&[u32], Option<Shape>); 5] = [
-        (&[], Some(Shape::Items(2))),
-        (&[0], Some(Shape::Num(1))),
-        (&[1], Some(Shape::Truth(true))),
-        (&[2], None),
-        (&[0, 0], None),
-    ];
-    for (at, shape) in table {
-        holds(&rt, shape_at(&value, at) == shape, "a shape");
-    }
-    Ok(())
-}
-
-// Texts, the places from which a value is read, the value as it is written, and the places behind it.
-const WRITTEN: &str = "
-12 | 0 | 12 | 2
--0; | 0 | 0 | 2
-X=-007 Y=1 | 2 | -7 | 6
-170141183460469231731687303715884105727 | 0 | 170141183460469231731687303715884105727 | 39
--170141183460469231731687303715884105727 | 0 | -170141183460469231731687303715884105727 | 40
--9223372036854775808 | 0 | -9223372036854775808 | 20
-<170141183460469231731687303715884105727> | 0 | <170141183460469231731687303715884105727> | 41
-true1 | 0 | true | 4
-<>> | 0 | <> | 2
-< 1 ,\t<\t> , false,<-2>> | 0 | <1,<>,false,<-2>> | 23
-";
+// Texts, the value as it is written behind `so: `, and the places behind it.
+const WRITTEN: [(&str, &str, usize); 4] = [
+    ("-007 Y=1", "so: -7", 4),
+    ("true1", "so: true", 4),
+    ("<>>", "so: <>", 2),
+    ("< 1 ,\t<\t> , false,<-2>>", "so: <1,<>,false,<-2>>", 23),
+];
 
 fn expect_value(
     rt: &(impl Abort + AllocGlobal),
     text: &str,
-    from: u32,
     canonical: &str,
-    after: u32,
+    after: usize,
 ) -> Result<(), Fail> {
-    let from = from as usize;
-    if from > text.len() {
-        return Err("past the end".into());
-    }
-    let (value, place) = match read_value(rt.alloc(), text.as_bytes(), from) {
-        Ok(read) => read,
-        Err(_) => return Err("no value".into()),
+    let Ok((value, place)) = read_value(rt.alloc(), text.as_bytes(), 0) else {
+        return Err("no value".into());
     };
     let mut out = Text::from_slice(rt.alloc(), b"so: ")?;
     write_value(&value, &mut out)?;
-    let expected = format!(in rt.alloc(); "so: {canonical}")?;
-    same_bytes(rt, out.as_slice(), expected.as_str(), text);
-    same_number(rt, place as u64, u64::from(after), text);
+    same_bytes(rt, out.as_slice(), canonical, text);
+    same_number(rt, place as u64, after as u64, text);
     Ok(())
-}
-
-fn expect_row(rt: &(impl Abort + AllocGlobal), row: &str) -> Result<(), Fail> {
-    let row = parts(rt.alloc(), row, '|')?;
-    let [text, from, canonical, after] = row.as_slice() else {
-        return Err("no row".into());
-    };
-    expect_value(rt, text, number(from)?, canonical, number(after)?)
 }
 
 #[test]
 fn values_are_read_and_written(rt: HostRuntime) -> Result<(), Fail> {
-    for row in WRITTEN.trim().lines() {
-        expect_row(&rt, row)?;
+    for (text, canonical, after) in WRITTEN {
+        expect_value(&rt, text, canonical, after)?;
     }
-    expect_value(&rt, "false\n", 0, "false", 5)
+    Ok(())
 }
 
-// Texts that no value begins.
+// Texts that no value begins. What stands between two `#` is repeated so many times.
 const REFUSED: &str = "
-=> NoValue { at: 0 }
-+1 => NoValue { at: 0 }
-tru => NoValue { at: 3 }
-truth => NoValue { at: 3 }
-- 1 => NoValue { at: 1 }
-<1 2> => NoValue { at: 3 }
-<1,> => NoValue { at: 3 }
-<,1> => NoValue { at: 1 }
-<1,<2> => NoValue { at: 6 }
-170141183460469231731687303715884105728 => TooLarge { at: 0 }
-<1,<0,1701411834604692317316873037158841057270; => TooLarge { at: 6 }
-<1,-170141183460469231731687303715884105728; => TooLarge { at: 3 }
+0 times: => NoValue { at: 0 }
+0 times: - 1 => NoValue { at: 1 }
+0 times: <1,<2> => NoValue { at: 6 }
+0 times: <1,-170141183460469231731687303715884105728; => TooLarge { at: 3 }
+101 times: #<# => TooDeep { at: 100 }
+65536 times: <1#,<>#> => TooLong { at: 196608 }
 ";
-
-fn expect_refusal(rt: &(impl Abort + AllocGlobal), text: &str, refusal: &str) -> Result<(), Fail> {
-    refused(
-        rt,
-        read_value(rt.alloc(), text.as_bytes(), 0),
-        refusal,
-        text,
-    )
-}
 
 #[test]
 fn texts_of_no_value_are_refused(rt: HostRuntime) -> Result<(), Fail> {
     for row in REFUSED.trim().lines() {
-        let (text, refusal) = cut(row, "=>")?;
-        expect_refusal(&rt, text, refusal)?;
-    }
-    expect_refusal(&rt, " 1", "NoValue { at: 0 }")?;
-    expect_refusal(&rt, "<1\n>", "NoValue { at: 2 }")
-}
-
-#[test]
-fn texts_past_the_limits_are_refused(rt: HostRuntime) -> Result<(), Fail> {
-    for (pattern, times) in [("#<##>#", 100), ("<1#,1#>", 65_535)] {
-        let text = series(rt.alloc(), pattern, times)?;
+        let (text, pattern, refusal) = repeated(rt.alloc(), row)?;
         let read = read_value(rt.alloc(), text.as_bytes(), 0);
-        holds(&rt, read.is_ok(), pattern);
+        refused(&rt, read, refusal, pattern)?;
     }
-    let deeper = series(rt.alloc(), "#<#", 101)?;
-    expect_refusal(&rt, deeper.as_str(), "TooDeep { at: 100 }")?;
-    let wider = series(rt.alloc(), "<1#,<>#", 65_536)?;
-    expect_refusal(&rt, wider.as_str(), "TooLong { at: 196608 }")
+    Ok(())
 }

@@ -129,78 +129,33 @@ fn woken_twice(alloc: Global, first: Known, then: Known) -> Result<String, NoMem
     Ok(text)
 }
 
+use Known::{End, Part};
+
 const ONE: Shape = Shape::Num(1);
 
+const TWO: Shape = Shape::Items(2);
+
+const THREE: Shape = Shape::Items(3);
+
 // What is known first, what is known then, and the items that become ready by each.
-const ROWS: [(Known, Known, &str); 15] = [
+const ROWS: [(Known, Known, &str); 12] = [
     // a variable's own fact wakes what waits for it, once; one of its items tells nothing of its shape
-    (
-        Known::Part((0, &[]), ONE),
-        Known::Part((0, &[]), ONE),
-        " [0, 7] []",
-    ),
-    (
-        Known::Part((0, &[5]), ONE),
-        Known::Part((0, &[]), Shape::Items(6)),
-        " [] [0, 7]",
-    ),
+    (Part((0, &[]), ONE), End(0), " [0, 7] [3]"),
+    (Part((0, &[5]), ONE), Part((0, &[]), ONE), " [] [0, 7]"),
     // so does one that gives the item a shape, and a shape of the list that leaves the item out
-    (
-        Known::Part((1, &[2]), ONE),
-        Known::Part((1, &[]), Shape::Items(3)),
-        " [1] []",
-    ),
-    (
-        Known::Part((1, &[]), Shape::Items(3)),
-        Known::Part((1, &[2]), ONE),
-        " [] [1]",
-    ),
-    (
-        Known::Part((1, &[]), Shape::Items(2)),
-        Known::Part((1, &[1]), ONE),
-        " [1] []",
-    ),
-    (
-        Known::Part((1, &[]), ONE),
-        Known::Part((1, &[]), ONE),
-        " [1] []",
-    ),
-    (
-        Known::Part((1, &[]), Shape::Truth(true)),
-        Known::End(0),
-        " [1] [3, 7]",
-    ),
+    (Part((1, &[2]), ONE), Part((1, &[2]), ONE), " [1] []"),
+    (Part((1, &[]), THREE), Part((1, &[2]), ONE), " [] [1]"),
+    (Part((1, &[]), TWO), Part((1, &[1]), ONE), " [1] []"),
+    (Part((1, &[]), ONE), End(0), " [1] [3, 7]"),
     // but not what is known of another item, of what lies within it, or of another variable
-    (
-        Known::Part((1, &[1]), ONE),
-        Known::Part((1, &[2, 0]), ONE),
-        " [] []",
-    ),
-    (
-        Known::Part((4, &[]), Shape::Items(0)),
-        Known::Part((5, &[2]), ONE),
-        " [] []",
-    ),
+    (Part((1, &[1]), ONE), Part((1, &[2, 0]), ONE), " [] []"),
+    (Part((4, &[]), TWO), Part((5, &[2]), ONE), " [] []"),
     // either of two is enough, and then the other wakes nothing
-    (
-        Known::Part((2, &[]), ONE),
-        Known::Part((3, &[]), ONE),
-        " [2] []",
-    ),
-    (
-        Known::Part((3, &[]), ONE),
-        Known::Part((2, &[]), ONE),
-        " [2] []",
-    ),
+    (Part((2, &[]), ONE), Part((3, &[]), ONE), " [2] []"),
+    (Part((3, &[]), ONE), Part((2, &[]), ONE), " [2] []"),
     // the same of ends of regions
-    (Known::End(0), Known::End(1), " [3, 7] [4]"),
-    (Known::End(1), Known::End(1), " [4] []"),
-    (Known::End(2), Known::Part((3, &[0]), ONE), " [] []"),
-    (
-        Known::Part((0, &[]), Shape::Items(0)),
-        Known::End(0),
-        " [0, 7] [3]",
-    ),
+    (End(0), End(1), " [3, 7] [4]"),
+    (End(2), Part((0, &[]), ONE), " [] [0, 7]"),
 ];
 
 #[test]
