@@ -22,7 +22,7 @@ use tp_check::Program;
 use tp_inputs::{Inputs, read_inputs};
 use tp_pass::close_by_passes;
 use tp_step::{
-    Cell, Course, Ending, Mark, Order, Scene, Setting, Settled, Steps, Tally, Wait, mark, settled,
+    Course, Ending, ItemIds, Mark, Order, Scene, Setting, Settled, Steps, Tally, mark, settled,
 };
 use tp_store::Store;
 use tp_value::{Fact, Facts, NoMemory};
@@ -175,40 +175,17 @@ fn are_same_facts(facts: &Facts, others: &Facts) -> bool {
     facts.items.len() == others.items.len()
 }
 
-// A cell: the number of its variable and the indices, or the region.
-fn cell_text(alloc: Global, cell: &Cell) -> Result<String, NoMemory> {
-    let text = match cell {
-        Cell::Part(path) => {
-            format!(in alloc; "{}{:?}", path.var.number, path.at.items.as_slice())?
-        }
-        Cell::End { region, depth } => format!(in alloc; "end {region} at {depth}")?,
-    };
-    Ok(text)
-}
-
-// An item that waits, with its cells.
-fn wait_text(alloc: Global, wait: &Wait) -> Result<String, NoMemory> {
-    let first = cell_text(alloc, &wait.first)?;
-    let text = match &wait.other {
-        Some(cell) => {
-            let other = cell_text(alloc, cell)?;
-            format!(in alloc; " {}: {first} {other},", wait.item)?
-        }
-        None => format!(in alloc; " {}: {first},", wait.item)?,
-    };
-    Ok(text)
-}
-
 // What a closure did: the items that it reduced, those that waited, those that rested, and how it ended.
 fn tally_text(alloc: Global, tally: &Tally, ending: &Ending) -> Result<String, NoMemory> {
-    let mut text = format!(in alloc; "{:?} waits", tally.picks.items.as_slice())?;
+    let picks = tally.picks.items.as_slice();
+    let mut waits = ItemIds::new(alloc);
     for wait in &tally.waits.items {
-        let wait = wait_text(alloc, wait)?;
-        text.push_str(wait.as_str())?;
+        waits.items.push(wait.item)?;
     }
+    let waits = waits.items.as_slice();
+    let rests = tally.rests.items.as_slice();
     let ending = ending_text(alloc, ending)?;
-    let end = format!(in alloc; " rests {:?} {ending}", tally.rests.items.as_slice())?;
-    text.push_str(end.as_str())?;
+    let text = format!(in alloc; "{picks:?} waits {waits:?} rests {rests:?} {ending}")?;
     Ok(text)
 }
 
@@ -284,41 +261,41 @@ fn both_closures_come_to_the_same_rests(rt: HostRuntime) -> Result<(), Fail> {
 // each part is known by the next one; equations of which each can be reduced at once; a sum that waits for one part and then for the
 // other; and a region that goes on.
 const PICKS: &str = "
-run A = B and B = C and C = 3 and empty. # first # 9 # [0, 3, 2, 1, 4] waits 1: 1[] 0[], 2: 2[] 1[], rests [] rest
-run A = B and B = C and C = 3 and empty. # last # 9 # [0, 4, 3, 2, 1] waits rests [] rest
-run A = B and B = C and C = 3 and empty. # 0 # 9 # [0, 4, 3, 2, 1] waits 1: 1[] 0[], rests [] rest
-run A = B and B = C and C = 3 and empty. # 2 # 9 # [0, 3, 2, 4, 1] waits 1: 1[] 0[], 2: 2[] 1[], rests [] rest
-run A = B and B = C and C = 3 and empty. # 3 # 9 # [0, 4, 3, 2, 1] waits 2: 2[] 1[], 1: 1[] 0[], rests [] rest
-run A = B and B = C and C = 3 and empty. # 7 # 9 # [0, 3, 4, 2, 1] waits rests [] rest
-run A = 1 and B = 2 and C = 3 and D = 4 and empty. # first # 9 # [0, 1, 2, 3, 4, 5] waits rests [] rest
-run A = 1 and B = 2 and C = 3 and D = 4 and empty. # last # 9 # [0, 5, 4, 3, 2, 1] waits rests [] rest
-run A = 1 and B = 2 and C = 3 and D = 4 and empty. # 0 # 9 # [0, 3, 1, 4, 2, 5] waits rests [] rest
-run A = 1 and B = 2 and C = 3 and D = 4 and empty. # 1 # 9 # [0, 5, 2, 1, 3, 4] waits rests [] rest
-run A = 1 and B = 2 and C = 3 and D = 4 and empty. # 18446744073709551615 # 9 # [0, 4, 5, 2, 1, 3] waits rests [] rest
-run A = B and C = 1. # first # 9 # [0, 2] waits 1: 1[] 0[], rests [] rest
-run A = B + C and B = 2 and C = 1. # first # 9 # [0, 2, 3, 1] waits 1: 1[] 0[], 1: 2[] 0[], rests [] rest
-run A = B + C and B = 2 and C = 1. # last # 9 # [0, 3, 2, 1] waits rests [] rest
-run more ; true. # first # 9 # [0, 1] waits rests [2] rest
-run more ; true. # last # 9 # [0, 1] waits 2: end 1 at 1, rests [2] rest
+run A = B and B = C and C = 3 and empty. # first # 9 # [0, 3, 2, 1, 4] waits [1, 2] rests [] rest
+run A = B and B = C and C = 3 and empty. # last # 9 # [0, 4, 3, 2, 1] waits [] rests [] rest
+run A = B and B = C and C = 3 and empty. # 0 # 9 # [0, 4, 3, 2, 1] waits [1] rests [] rest
+run A = B and B = C and C = 3 and empty. # 2 # 9 # [0, 3, 2, 4, 1] waits [1, 2] rests [] rest
+run A = B and B = C and C = 3 and empty. # 3 # 9 # [0, 4, 3, 2, 1] waits [2, 1] rests [] rest
+run A = B and B = C and C = 3 and empty. # 7 # 9 # [0, 3, 4, 2, 1] waits [] rests [] rest
+run A = 1 and B = 2 and C = 3 and D = 4 and empty. # first # 9 # [0, 1, 2, 3, 4, 5] waits [] rests [] rest
+run A = 1 and B = 2 and C = 3 and D = 4 and empty. # last # 9 # [0, 5, 4, 3, 2, 1] waits [] rests [] rest
+run A = 1 and B = 2 and C = 3 and D = 4 and empty. # 0 # 9 # [0, 3, 1, 4, 2, 5] waits [] rests [] rest
+run A = 1 and B = 2 and C = 3 and D = 4 and empty. # 1 # 9 # [0, 5, 2, 1, 3, 4] waits [] rests [] rest
+run A = 1 and B = 2 and C = 3 and D = 4 and empty. # 18446744073709551615 # 9 # [0, 4, 5, 2, 1, 3] waits [] rests [] rest
+run A = B and C = 1. # first # 9 # [0, 2] waits [1] rests [] rest
+run A = B + C and B = 2 and C = 1. # first # 9 # [0, 2, 3, 1] waits [1, 1] rests [] rest
+run A = B + C and B = 2 and C = 1. # last # 9 # [0, 3, 2, 1] waits [] rests [] rest
+run more ; true. # first # 9 # [0, 1] waits [] rests [2] rest
+run more ; true. # last # 9 # [0, 1] waits [2] rests [2] rest
 ";
 
 // The same of programs that come to a limit or a clash, or take inputs.
 const STOPS: &str = "
-run A = B and B = C and C = 3 and empty. # first # 0 # [] waits rests [] over Reductions
-run A = B and B = C and C = 3 and empty. # first # 2 # [0, 3] waits 1: 1[] 0[], 2: 2[] 1[], rests [] over Reductions
-run A = B and B = C and C = 3 and empty. # last # 3 # [0, 4, 3] waits rests [] over Reductions
-run A = B and B = C and C = 3 and empty. # 7 # 0 # [] waits rests [] over Reductions
-run A = 170141183460469231731687303715884105727 + 1. # first # 9 # [] waits rests [] over Number
-run false and A = 1. # first # 9 # [0] waits rests [] clash False
-run false and A = 1. # last # 9 # [0, 2] waits rests [] clash False
-run A = 1 and more and empty. # first # 9 # [0, 1, 2] waits rests [] clash Marks { depth: 0 }
-run A = 1 and more and empty. # last # 9 # [0, 3] waits rests [] clash Marks { depth: 0 }
-run A = L[2] and |L| = 2. # first # 9 # [0, 2] waits 1: 1[2] 0[], rests [] clash NoValue(NoElement)
-run A = L[2] and |L| = 2. # last # 9 # [0, 2] waits rests [] clash NoValue(NoElement)
-run input(A,p) and B = 1. # first # 9 # [0] waits rests [] missing p
-run input(A,p) and B = 1. # last # 9 # [0, 2] waits rests [] missing p
-run input(A,q) and A = B. # last # 9 # [0, 1, 2] waits 2: 1[] 0[], rests [] rest
-run input(L[B],q) and B = 0. # first # 9 # [0, 2, 1] waits 1: 1[], rests [] rest
+run A = B and B = C and C = 3 and empty. # first # 0 # [] waits [] rests [] over Reductions
+run A = B and B = C and C = 3 and empty. # first # 2 # [0, 3] waits [1, 2] rests [] over Reductions
+run A = B and B = C and C = 3 and empty. # last # 3 # [0, 4, 3] waits [] rests [] over Reductions
+run A = B and B = C and C = 3 and empty. # 7 # 0 # [] waits [] rests [] over Reductions
+run A = 170141183460469231731687303715884105727 + 1. # first # 9 # [] waits [] rests [] over Number
+run false and A = 1. # first # 9 # [0] waits [] rests [] clash False
+run false and A = 1. # last # 9 # [0, 2] waits [] rests [] clash False
+run A = 1 and more and empty. # first # 9 # [0, 1, 2] waits [] rests [] clash Marks { depth: 0 }
+run A = 1 and more and empty. # last # 9 # [0, 3] waits [] rests [] clash Marks { depth: 0 }
+run A = L[2] and |L| = 2. # first # 9 # [0, 2] waits [1] rests [] clash NoValue(NoElement)
+run A = L[2] and |L| = 2. # last # 9 # [0, 2] waits [] rests [] clash NoValue(NoElement)
+run input(A,p) and B = 1. # first # 9 # [0] waits [] rests [] missing p
+run input(A,p) and B = 1. # last # 9 # [0, 2] waits [] rests [] missing p
+run input(A,q) and A = B. # last # 9 # [0, 1, 2] waits [2] rests [] rest
+run input(L[B],q) and B = 0. # first # 9 # [0, 2, 1] waits [1] rests [] rest
 ";
 
 // The inputs of each of these.

@@ -2,7 +2,7 @@
 ghost use Rattle.std.specs.Prelude.{◌≡◌, ◌∷◌, []};
 ghost use Rattle.tp_store.specs.Known.{global_variable};
 
-use crate::expected::same_text;
+use crate::expected::same_bytes;
 use crate::making::{one_variable, path};
 use crate::sources::program_of;
 use crate::tables::cut;
@@ -11,7 +11,7 @@ use std::test::Fail;
 use tp_eval::{Outcome, PlaceOutcome, eval, is_place, place};
 use tp_kernel::{Defs, Env, Expr, Formula};
 use tp_store::Store;
-use tp_value::{NoMemory, Value};
+use tp_value::{NoMemory, Text, Value, write_value};
 
 // Says how long the list at these indices of A is.
 fn put_length(alloc: Global, store: &mut Store, at: &[u32], length: u32) -> Result<(), Fail>
@@ -33,67 +33,61 @@ fn known_state(alloc: Global) -> Result<Store, Fail> {
     Ok(store)
 }
 
-fn outcome_text(alloc: Global, outcome: &Outcome) -> Result<String, NoMemory> {
-    let text = match outcome {
-        Outcome::Value(Value::Num(n)) => format!(in alloc; "{n}")?,
-        Outcome::Value(Value::Truth(b)) => format!(in alloc; "{b}")?,
-        Outcome::Value(Value::List(all)) => format!(in alloc; "list of {}", all.items.len())?,
-        Outcome::Wait(path) => format!(in alloc; "wait at {:?}", path.at.items.as_slice())?,
-        Outcome::Fault(kind) => format!(in alloc; "{kind:?}")?,
-        Outcome::Over(kind) => format!(in alloc; "over {kind:?}")?,
-    };
-    Ok(text)
+fn append_outcome(alloc: Global, outcome: &Outcome, out: &mut Text) -> Result<(), NoMemory> {
+    match outcome {
+        Outcome::Value(value) => write_value(value, out),
+        Outcome::Wait(path) => {
+            out.append(format!(in alloc; "wait at {:?}", path.at.items.as_slice())?.as_bytes())
+        }
+        Outcome::Fault(kind) => out.append(format!(in alloc; "{kind:?}")?.as_bytes()),
+        Outcome::Over(kind) => out.append(format!(in alloc; "over {kind:?}")?.as_bytes()),
+    }
 }
 
-fn place_text(alloc: Global, found: &PlaceOutcome) -> Result<String, NoMemory> {
+fn append_place(alloc: Global, found: &PlaceOutcome, out: &mut Text) -> Result<(), NoMemory> {
     match found {
         PlaceOutcome::Place(path) => {
-            let text = format!(in alloc; "place at {:?}", path.at.items.as_slice())?;
-            Ok(text)
+            out.append(format!(in alloc; "place at {:?}", path.at.items.as_slice())?.as_bytes())
         }
-        PlaceOutcome::Other(outcome) => outcome_text(alloc, outcome),
+        PlaceOutcome::Other(outcome) => append_outcome(alloc, outcome, out),
     }
 }
 
 // The outcomes of the sides of an equation, of which the left one is a place.
-fn sides(
+fn append_sides(
     alloc: Global,
     left: &Expr,
     right: &Expr,
     store: &Store,
     defs: &Defs,
-) -> Result<String, Fail> {
-    if !is_place(left) {
-        return Err("no place".into());
-    }
+    out: &mut Text,
+) -> Result<(), NoMemory> {
     let env = Env {
         items: Vec::new(alloc),
     };
-    let found = place(alloc, left, &env, store, defs)?;
-    let mut text = place_text(alloc, &found)?;
-    let outcome = eval(alloc, right, &env, store, defs)?;
-    let other = outcome_text(alloc, &outcome)?;
-    text.push_str("; ")?;
-    text.push_str(other.as_str())?;
-    Ok(text)
+    if is_place(left) {
+        append_place(alloc, &place(alloc, left, &env, store, defs)?, out)?;
+    }
+    out.append(b"; ")?;
+    append_outcome(alloc, &eval(alloc, right, &env, store, defs)?, out)
 }
 
 // The same of a source that is an equation.
-fn outcomes(alloc: Global, source: &str) -> Result<String, Fail> {
+fn outcomes(alloc: Global, source: &str, store: &Store) -> Result<Text, Fail> {
     let program = program_of(alloc, source)?;
-    let store = known_state(alloc)?;
+    let mut out = Text::new(alloc);
     let main: &Formula = &program.main;
-    match main {
-        Formula::Eq(left, right) => sides(alloc, left, right, &store, &program.defs),
-        _ => Err("no equation".into()),
+    if let Formula::Eq(left, right) = main {
+        append_sides(alloc, left, right, store, &program.defs, &mut out)?;
     }
+    Ok(out)
 }
 
 const ROWS: &str = "
 run A = -7 div 2 + 4 * 2. => place at []; 4
 run A[1] = (not A[0] = 5). => place at [1]; false
-run A[A[0]] = A[2] + <6, true>. => place at [5]; list of 2
-run A[2][|A|] = A[2]. => place at [2, 3]; list of 0
+run A[A[0]] = A[2] + <6, true>. => place at [5]; <6,true>
+run A[2][|A|] = A[2]. => place at [2, 3]; <>
 run A[A[1]][1 div 0] = A. => wait at [1]; wait at [1]
 run A[1 div 0][A[1]] = 1 mod 0. => ZeroDivisor; ZeroDivisor
 run A[-1] = A[3]. => NoElement; NoElement
@@ -106,10 +100,11 @@ define second(X, n) = X[n]. run A = second(A, 1). => place at []; wait at [1]
 
 #[test]
 fn expressions_and_places_have_outcomes(rt: HostRuntime) -> Result<(), Fail> {
+    let store = known_state(rt.alloc())?;
     for row in ROWS.trim().lines() {
         let (source, expected) = cut(row, "=>")?;
-        let found = outcomes(rt.alloc(), source)?;
-        same_text(&rt, found.as_str(), expected, source);
+        let found = outcomes(rt.alloc(), source, &store)?;
+        same_bytes(&rt, found.as_slice(), expected, source);
     }
     Ok(())
 }

@@ -90,23 +90,14 @@ fn shown_count(alloc: Global, scene: &Scene) -> Result<usize, NoMemory>
 }
 
 // What the state has come to, the marks of the root and of the next two regions, and how many lists of values are shown.
-fn end(alloc: Global, scene: &Scene, out: &mut String) -> Result<(), Fail>
+fn end(alloc: Global, scene: &Scene) -> Result<String, NoMemory>
     requires { IsWellKept scene.now }
 {
     let come_to = settled(scene);
-    let root = mark(scene, 0).ok_or("no root")?;
-    let text = format!(in alloc; "{come_to:?} {root:?}")?;
-    out.push_str(text.as_str())?;
-    for region in 1..3 {
-        if let Some(inner) = mark(scene, region) {
-            let text = format!(in alloc; " {region}:{inner:?}")?;
-            out.push_str(text.as_str())?;
-        }
-    }
-    for _ in 0..shown_count(alloc, scene)? {
-        out.push_str(" shown")?;
-    }
-    Ok(())
+    let marks = [mark(scene, 0), mark(scene, 1), mark(scene, 2)];
+    let shown = shown_count(alloc, scene)?;
+    let text = format!(in alloc; "{come_to:?} {marks:?} {shown}")?;
+    Ok(text)
 }
 
 // Tries this item with so many reductions left, and says what is answered, and how many items are live then.
@@ -158,7 +149,7 @@ fn tries<L: Ledger>(
         let text = try_one(scene, store, item, setting, room, steps)?;
         out.push_str(text.as_str())?;
     }
-    end(setting.alloc, scene, &mut out)?;
+    out.push_str(end(setting.alloc, scene)?.as_str())?;
     Ok(out)
 }
 
@@ -189,60 +180,60 @@ fn told_items(alloc: Global, source: &str, picks: &[u8], room: u64) -> Result<St
 
 // A program, the items that are tried, how many reductions are left at each, and what is answered.
 const KINDS: &str = "
-run true. | 0 | 1 | 0+0 0, EndOpen Open
-run 1 < 2. | 0 | 1 | 0+0 0, EndOpen Open
-run false. | 0 | 1 | clash 1, Waiting(0) Open
-run A < 2. | 0 | 0 | waits 1, Waiting(0) Open
-run A = 1. | 0 | 1 | 0+1 0, EndOpen Open
-run A = 1. | 0 | 0 | over 1, Waiting(0) Open
-run next A = 1. | 0123 | 1 | 2+0 2, 0+0! 1, 1+0! 1, rests 1, Goes Goes
-run empty. | 0 | 1 | 0+0! 0, Ends Ends
-run more. | 0 | 1 | 0+0! 0, Goes Goes
-run next true. | 01 | 1 | 1+0! 1, rests 1, Goes Goes
-run always(true). | 012 | 1 | 2+0 2, 0+0 1, waits 1, Waiting(2) Open
-run keep(true). | 01 | 1 | 2+0 2, waits 2, Waiting(1) Open
-run fin(true). | 01 | 1 | 2+0 2, waits 2, Waiting(1) Open
-run if true then true else empty. | 01 | 1 | 1+0 1, 0+0 0, EndOpen Open
-run len(1). | 012 | 1 | 1+0 1, 1+0! 1, rests 1, Goes Goes
-run display(6). | 01 | 1 | 1+0 1, rests 1, EndOpen Open shown
-run display(1, A). | 0 | 1 | waits 1, Waiting(0) Open
-run display(1 div 0). | 0 | 1 | clash 1, Waiting(0) Open
-run input(A,p). | 0 | 1 | missing 1, Waiting(0) Open
-run A <- 1. | 012 | 1 | 1+0 1, 2+0 2, waits 2, Waiting(2) Open
-run exists A: A = 1. | 01 | 1 | 1+0 1, 0+1 0, EndOpen Open
-define p(x) = A = x. run p(1). | 01 | 1 | 1+0 1, 0+1 0, EndOpen Open
-define p(x) = true. run p(A). | 0 | 1 | waits 1, Waiting(0) Open
-define p(x) = true. run p(1 div 0). | 0 | 1 | clash 1, Waiting(0) Open
-define p(x) = true. run p(1). | 0 | 0 | over 1, Waiting(0) Open
+run true. | 0 | 1 | 0+0 0, EndOpen [Some(Open), None, None] 0
+run 1 < 2. | 0 | 1 | 0+0 0, EndOpen [Some(Open), None, None] 0
+run false. | 0 | 1 | clash 1, Waiting(0) [Some(Open), None, None] 0
+run A < 2. | 0 | 0 | waits 1, Waiting(0) [Some(Open), None, None] 0
+run A = 1. | 0 | 1 | 0+1 0, EndOpen [Some(Open), None, None] 0
+run A = 1. | 0 | 0 | over 1, Waiting(0) [Some(Open), None, None] 0
+run next A = 1. | 0123 | 1 | 2+0 2, 0+0! 1, 1+0! 1, rests 1, Goes [Some(Goes), None, None] 0
+run empty. | 0 | 1 | 0+0! 0, Ends [Some(Ends), None, None] 0
+run more. | 0 | 1 | 0+0! 0, Goes [Some(Goes), None, None] 0
+run next true. | 01 | 1 | 1+0! 1, rests 1, Goes [Some(Goes), None, None] 0
+run always(true). | 012 | 1 | 2+0 2, 0+0 1, waits 1, Waiting(2) [Some(Open), None, None] 0
+run keep(true). | 01 | 1 | 2+0 2, waits 2, Waiting(1) [Some(Open), None, None] 0
+run fin(true). | 01 | 1 | 2+0 2, waits 2, Waiting(1) [Some(Open), None, None] 0
+run if true then true else empty. | 01 | 1 | 1+0 1, 0+0 0, EndOpen [Some(Open), None, None] 0
+run len(1). | 012 | 1 | 1+0 1, 1+0! 1, rests 1, Goes [Some(Goes), None, None] 0
+run display(6). | 01 | 1 | 1+0 1, rests 1, EndOpen [Some(Open), None, None] 1
+run display(1, A). | 0 | 1 | waits 1, Waiting(0) [Some(Open), None, None] 0
+run display(1 div 0). | 0 | 1 | clash 1, Waiting(0) [Some(Open), None, None] 0
+run input(A,p). | 0 | 1 | missing 1, Waiting(0) [Some(Open), None, None] 0
+run A <- 1. | 012 | 1 | 1+0 1, 2+0 2, waits 2, Waiting(2) [Some(Open), None, None] 0
+run exists A: A = 1. | 01 | 1 | 1+0 1, 0+1 0, EndOpen [Some(Open), None, None] 0
+define p(x) = A = x. run p(1). | 01 | 1 | 1+0 1, 0+1 0, EndOpen [Some(Open), None, None] 0
+define p(x) = true. run p(A). | 0 | 1 | waits 1, Waiting(0) [Some(Open), None, None] 0
+define p(x) = true. run p(1 div 0). | 0 | 1 | clash 1, Waiting(0) [Some(Open), None, None] 0
+define p(x) = true. run p(1). | 0 | 0 | over 1, Waiting(0) [Some(Open), None, None] 0
 ";
 
 // Programs of which one item meets what another has done.
 const MEETINGS: &str = "
-run more and empty. | 012 | 9 | 2+0 2, 0+0! 1, clash 1, Waiting(2) Goes
-run empty and next true. | 012 | 9 | 2+0 2, 0+0! 1, clash 1, Waiting(2) Ends
-run A = 1 and A = 2. | 012 | 9 | 2+0 2, 0+1 1, clash 1, Waiting(2) Open
-run A = 1 and A < 2. | 0212 | 9 | 2+0 2, waits 2, 0+1 1, 0+0 0, EndOpen Open
-run more and always(true). | 012453 | 9 | 2+0 2, 0+0! 1, 2+0 2, 1+0 2, rests 2, 0+0 1, Goes Goes
-run empty and always(true). | 01243 | 9 | 2+0 2, 0+0! 1, 2+0 2, 0+0 1, 0+0 0, Ends Ends
-run more and keep(true). | 012354 | 9 | 2+0 2, 0+0! 1, 2+0 2, 1+0 2, 0+0 1, 1+0 1, Goes Goes
-run empty and fin(true). | 012354 | 9 | 2+0 2, 0+0! 1, 2+0 2, 1+0 2, 0+0 1, 0+0 0, Ends Ends
-run next true and A = 1. | 01 | 9 | 2+0 2, 1+0! 2, Waiting(2) Goes
+run more and empty. | 012 | 9 | 2+0 2, 0+0! 1, clash 1, Waiting(2) [Some(Goes), None, None] 0
+run empty and next true. | 012 | 9 | 2+0 2, 0+0! 1, clash 1, Waiting(2) [Some(Ends), None, None] 0
+run A = 1 and A = 2. | 012 | 9 | 2+0 2, 0+1 1, clash 1, Waiting(2) [Some(Open), None, None] 0
+run A = 1 and A < 2. | 0212 | 9 | 2+0 2, waits 2, 0+1 1, 0+0 0, EndOpen [Some(Open), None, None] 0
+run more and always(true). | 012453 | 9 | 2+0 2, 0+0! 1, 2+0 2, 1+0 2, rests 2, 0+0 1, Goes [Some(Goes), None, None] 0
+run empty and always(true). | 01243 | 9 | 2+0 2, 0+0! 1, 2+0 2, 0+0 1, 0+0 0, Ends [Some(Ends), None, None] 0
+run more and keep(true). | 012354 | 9 | 2+0 2, 0+0! 1, 2+0 2, 1+0 2, 0+0 1, 1+0 1, Goes [Some(Goes), None, None] 0
+run empty and fin(true). | 012354 | 9 | 2+0 2, 0+0! 1, 2+0 2, 1+0 2, 0+0 1, 0+0 0, Ends [Some(Ends), None, None] 0
+run next true and A = 1. | 01 | 9 | 2+0 2, 1+0! 2, Waiting(2) [Some(Goes), None, None] 0
 ";
 
 // Programs of which some items hold regions.
 const REGIONS: &str = "
-run empty ; A = 1. | 0123 | 9 | 2+0 2, 0+0! 1, 2+0 2, rests 2, Waiting(4) Open 1:Ends
-run more ; true. | 012 | 9 | 2+0 2, 0+0! 1, rests 1, Goes Goes 1:Goes
-run true ; true. | 012 | 9 | 2+0 2, 0+0 1, waits 1, Waiting(2) Open 1:Open
-run true ; true. | 0 | 0 | over 1, Waiting(0) Open
-run while false do true. | 012 | 9 | 1+0 1, 1+0 1, 0+0! 0, Ends Ends
-run while true do true. | 0123 | 9 | 1+0 1, 1+0 1, 2+0 2, 2+0 3, Waiting(5) Open 1:Open
-run for i < 0 do true. | 01 | 9 | 1+0 1, 0+0! 0, Ends Ends
-run for i < 2 do true. | 01 | 9 | 2+0 2, 0+0 1, Waiting(2) Open 1:Open
-run forall i < 2: A = i. | 0123 | 9 | 2+0 2, 0+1 1, 2+0 2, clash 2, Waiting(3) Open
+run empty ; A = 1. | 0123 | 9 | 2+0 2, 0+0! 1, 2+0 2, rests 2, Waiting(4) [Some(Open), Some(Ends), None] 0
+run more ; true. | 012 | 9 | 2+0 2, 0+0! 1, rests 1, Goes [Some(Goes), Some(Goes), None] 0
+run true ; true. | 012 | 9 | 2+0 2, 0+0 1, waits 1, Waiting(2) [Some(Open), Some(Open), None] 0
+run true ; true. | 0 | 0 | over 1, Waiting(0) [Some(Open), None, None] 0
+run while false do true. | 012 | 9 | 1+0 1, 1+0 1, 0+0! 0, Ends [Some(Ends), None, None] 0
+run while true do true. | 0123 | 9 | 1+0 1, 1+0 1, 2+0 2, 2+0 3, Waiting(5) [Some(Open), Some(Open), None] 0
+run for i < 0 do true. | 01 | 9 | 1+0 1, 0+0! 0, Ends [Some(Ends), None, None] 0
+run for i < 2 do true. | 01 | 9 | 2+0 2, 0+0 1, Waiting(2) [Some(Open), Some(Open), None] 0
+run forall i < 2: A = i. | 0123 | 9 | 2+0 2, 0+1 1, 2+0 2, clash 2, Waiting(3) [Some(Open), None, None] 0
 run empty proj more. | 01234 | 9 | \
-    2+0 2, 0+0! 1, 3+0 3, 0+0! 2, clash 2, Waiting(4) Goes 1:Goes 2:Ends
-run empty proj empty. | 012 | 9 | 2+0 2, 0+0! 1, rests 1, Ends Ends 1:Ends
+    2+0 2, 0+0! 1, 3+0 3, 0+0! 2, clash 2, Waiting(4) [Some(Goes), Some(Goes), Some(Ends)] 0
+run empty proj empty. | 012 | 9 | 2+0 2, 0+0! 1, rests 1, Ends [Some(Ends), Some(Ends), None] 0
 ";
 
 fn expect(rt: &(impl Abort + AllocGlobal), row: &str) -> Result<(), Fail> {

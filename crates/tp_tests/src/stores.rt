@@ -9,7 +9,7 @@ use std::alloc::Global;
 use std::process::Abort;
 use std::test::Fail;
 use tp_store::{AddRefusal, Known, Store};
-use tp_value::{Facts, NoMemory, Path, Text, Value, read_value};
+use tp_value::{Facts, NoMemory, Path, Value, read_value};
 
 // What is added: a value, or the length of a list, of which nothing else is known.
 #[derive(Drop)]
@@ -29,24 +29,25 @@ fn thing_to_add(alloc: Global, text: &str) -> Result<Added, Fail> {
     }
 }
 
-fn put(store: &mut Store, path: &Path, added: &Added) -> Result<Facts, AddRefusal>
+fn put(store: &mut Store, path: &Path, added: &Added) -> Result<usize, AddRefusal>
     requires { IsVariableOf store.old.variables path.now.var }
     ensures { store.new.variables ≡ store.old.variables }
 {
     match added {
-        Added::Value(value) => store.add(path, value),
-        Added::Length(n) => store.add_length(path, *n),
+        Added::Value(value) => Ok(store.add(path, value)?.items.len()),
+        Added::Length(n) => Ok(store.add_length(path, *n)?.items.len()),
     }
 }
 
-// The same without adding anything.
-fn ask(store: &Store, path: &Path, added: &Added) -> Result<(), AddRefusal>
+// The same without adding anything; nothing is new then.
+fn ask(store: &Store, path: &Path, added: &Added) -> Result<usize, AddRefusal>
     requires { IsVariableOf store.now.variables path.now.var }
 {
     match added {
-        Added::Value(value) => store.check(path, value),
-        Added::Length(n) => store.check_length(path, *n),
+        Added::Value(value) => store.check(path, value)?,
+        Added::Length(n) => store.check_length(path, *n)?,
     }
+    Ok(0)
 }
 
 // Of how many indices the kept and the new fact of a clash are.
@@ -62,16 +63,10 @@ fn clash_text(alloc: Global, refusal: &AddRefusal) -> Result<String, NoMemory> {
     Ok(text)
 }
 
-fn asked(alloc: Global, answer: Result<(), AddRefusal>) -> Result<String, NoMemory> {
+// How many facts are new, or why there are none.
+fn answer(alloc: Global, answer: Result<usize, AddRefusal>) -> Result<String, NoMemory> {
     match answer {
-        Ok(()) => Ok(format!(in alloc; "free")?),
-        Err(refusal) => clash_text(alloc, &refusal),
-    }
-}
-
-fn answered(alloc: Global, answer: Result<Facts, AddRefusal>) -> Result<String, NoMemory> {
-    match answer {
-        Ok(news) => Ok(format!(in alloc; "{} new", news.items.len())?),
+        Ok(count) => Ok(format!(in alloc; "{count} new")?),
         Err(refusal) => clash_text(alloc, &refusal),
     }
 }
@@ -88,19 +83,19 @@ fn known(alloc: Global, known: &Known) -> Result<String, NoMemory> {
 
 // A place, what is added there, what the store says when it is asked and when it is done, and a place and what is known there then.
 const FILLED: &str = "
-A[1] | 7 | free | 1 new | A | open at []
+A[1] | 7 | 0 new | 1 new | A | open at []
 A | length 1 | 1 against 0 | 1 against 0 | A | open at []
-A | length 2 | free | 1 new | A | open at [0]
-A | length 2 | free | 0 new | A | open at [0]
+A | length 2 | 0 new | 1 new | A | open at [0]
+A | length 2 | 0 new | 0 new | A | open at [0]
 A[2] | 7 | 0 against 1 | 0 against 1 | A[2] | absent
-A[0] | 8 | free | 1 new | A | known
+A[0] | 8 | 0 new | 1 new | A | known
 A[1] | 8 | 1 against 1 | 1 against 1 | A | known
 A | 8 | 0 against 0 | 0 against 0 | A | known
 ";
 
 const LISTED: &str = "
-A | <6,6> | free | 3 new | A[1] | known
-A[0] | 6 | free | 0 new | A[0][0] | absent
+A | <6,6> | 0 new | 3 new | A[1] | known
+A[0] | 6 | 0 new | 0 new | A[0][0] | absent
 A[0] | true | 1 against 1 | 1 against 1 | A[2] | absent
 ";
 
@@ -122,8 +117,8 @@ fn expect_added(
     store: &mut Store,
     at: &str,
     adding: &str,
-    free: &str,
-    answer: &str,
+    asked: &str,
+    done: &str,
 ) -> Result<(), Fail>
     requires { store.old.variables ≡ global_variable (65 ∷ []) ∷ [] }
     ensures { store.new.variables ≡ store.old.variables }
@@ -131,9 +126,9 @@ fn expect_added(
     let here = place(rt.alloc(), at)?;
     let adding = thing_to_add(rt.alloc(), adding)?;
     let found = ask(store, &here, &adding);
-    same_text(rt, asked(rt.alloc(), found)?.as_str(), free, at);
+    same_text(rt, answer(rt.alloc(), found)?.as_str(), asked, at);
     let news = put(store, &here, &adding);
-    same_text(rt, answered(rt.alloc(), news)?.as_str(), answer, at);
+    same_text(rt, answer(rt.alloc(), news)?.as_str(), done, at);
     Ok(())
 }
 
@@ -157,10 +152,10 @@ fn expect(rt: &(impl Abort + AllocGlobal), store: &mut Store, row: &str) -> Resu
     ensures { store.new.variables ≡ store.old.variables }
 {
     let row = parts(rt.alloc(), row, '|')?;
-    let [at, adding, free, answer, there, text] = row.as_slice() else {
+    let [at, adding, asked, done, there, text] = row.as_slice() else {
         return Err("no row".into());
     };
-    expect_added(rt, store, at, adding, free, answer)?;
+    expect_added(rt, store, at, adding, asked, done)?;
     expect_known(rt, store, there, text)
 }
 
@@ -172,16 +167,6 @@ fn facts_are_added(rt: HostRuntime) -> Result<(), Fail> {
             expect(&rt, &mut store, row)?;
         }
     }
-    Ok(())
-}
-
-#[test]
-fn locals_are_named(rt: HostRuntime) -> Result<(), Fail> {
-    let mut store = one_variable(rt.alloc())?;
-    let name = Text::from_slice(rt.alloc(), b"b")?;
-    let local = store.fresh(&name, true)?;
-    same_number(&rt, local.number, 1, "a local");
-    holds(&rt, store.name(local).is_some(), "a local has a name");
     Ok(())
 }
 
@@ -199,17 +184,5 @@ fn whole_lists_are_kept(rt: HostRuntime) -> Result<(), Fail> {
     same_number(&rt, facts.items.len() as u64, 2, "its facts");
     store.next_state();
     holds(&rt, store.shape(&here).is_none(), "the next state");
-    Ok(())
-}
-
-#[test]
-fn lists_by_items_are_not_kept(rt: HostRuntime) -> Result<(), Fail> {
-    let alloc = rt.alloc();
-    let mut store = one_variable(alloc)?;
-    let here = path(alloc, 0, &[])?;
-    let item = path(alloc, 0, &[0])?;
-    store.add_length(&here, 1)?;
-    store.add(&item, &Value::Num(6))?;
-    holds(&rt, store.kept_value(&here).is_none(), "a list");
     Ok(())
 }

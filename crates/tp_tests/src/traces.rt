@@ -9,12 +9,8 @@ use tp_show::{NamedFact, Trace, TraceRefusal, read_trace};
 // A fact: a name, indices and a shape.
 fn append_fact(alloc: Global, fact: &NamedFact, out: &mut String) -> Result<(), Fail> {
     let name = str::from_utf8(fact.name.as_slice()).ok().ok_or("no name")?;
-    let at = format!(in alloc; "{:?}", fact.at.items.as_slice())?;
-    let shape = format!(in alloc; "{:?}", fact.shape)?;
-    out.push(' ')?;
-    out.push_str(name)?;
-    out.push_str(at.as_str())?;
-    out.push_str(shape.as_str())?;
+    let told = format!(in alloc; " {name}{:?}{:?}", fact.at.items.as_slice(), fact.shape)?;
+    out.push_str(told.as_str())?;
     Ok(())
 }
 

@@ -26,44 +26,49 @@ fn expect(rt: &(impl Abort + AllocGlobal), turn: &Turn, text: &str) -> Result<()
     Ok(())
 }
 
-fn end(depth: u32) -> Turn {
-    let cell = Cell::End { region: 3, depth };
-    Turn::Undetermined { state: 4, cell }
-}
+// Answers without a place, and their end lines.
+const ENDS: [(Turn, &str); 5] = [
+    (Turn::Went, ""),
+    (Turn::Finished { length: 3 }, "finished: length 3\n"),
+    (Turn::StateLimit { states: 3 }, "state limit: 3\n"),
+    (
+        Turn::Over {
+            state: 2,
+            limit: LimitKind::Nest,
+        },
+        "nest limit: state 2\n",
+    ),
+    (
+        Turn::Undetermined {
+            state: 4,
+            cell: Cell::End {
+                region: 3,
+                depth: 2,
+            },
+        },
+        "undetermined: state 4: end at depth 2\n",
+    ),
+];
 
-fn clash(clash: Clash) -> Turn {
-    Turn::Contradictory { state: 1, clash }
-}
-
-const FAULT: FaultKind = FaultKind::NoElement;
-
-const NEST: LimitKind = LimitKind::Nest;
+const CLASHES: [(Clash, &str); 3] = [
+    (Clash::False, "contradictory: state 1: false\n"),
+    (
+        Clash::Marks { depth: 1 },
+        "contradictory: state 1: ends and goes on at depth 1\n",
+    ),
+    (
+        Clash::NoValue(FaultKind::NoElement),
+        "contradictory: state 1: no value: no element\n",
+    ),
+];
 
 #[test]
 fn ends_are_told(rt: HostRuntime) -> Result<(), Fail> {
-    for (turn, text) in &[
-        (Turn::Went, ""),
-        (Turn::Finished { length: 3 }, "finished: length 3\n"),
-        (Turn::StateLimit { states: 3 }, "state limit: 3\n"),
-        (
-            Turn::Over {
-                state: 2,
-                limit: NEST,
-            },
-            "nest limit: state 2\n",
-        ),
-        (end(2), "undetermined: state 4: end at depth 2\n"),
-        (clash(Clash::False), "contradictory: state 1: false\n"),
-        (
-            clash(Clash::Marks { depth: 1 }),
-            "contradictory: state 1: ends and goes on at depth 1\n",
-        ),
-        (
-            clash(Clash::NoValue(FAULT)),
-            "contradictory: state 1: no value: no element\n",
-        ),
-    ] {
+    for (turn, text) in &ENDS {
         expect(&rt, turn, text)?;
+    }
+    for (clash, text) in CLASHES {
+        expect(&rt, &Turn::Contradictory { state: 1, clash }, text)?;
     }
     Ok(())
 }
@@ -87,6 +92,7 @@ fn fact(alloc: Global, at: &[u32], shape: Shape) -> Result<Fact, NoMemory> {
 fn clashes_of_facts_are_told(rt: HostRuntime) -> Result<(), Fail> {
     let kept = fact(rt.alloc(), &[2], Shape::Num(1))?;
     let new = fact(rt.alloc(), &[], Shape::Items(2))?;
-    let turn = clash(Clash::Facts { kept, new });
+    let clash = Clash::Facts { kept, new };
+    let turn = Turn::Contradictory { state: 1, clash };
     expect(&rt, &turn, "contradictory: state 1: |A|=2 and A[2]=1\n")
 }
