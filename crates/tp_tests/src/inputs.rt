@@ -68,5 +68,7 @@ fn other_texts_are_refused(rt: HostRuntime) -> Result<(), Fail> {
             pattern,
         )?;
     }
-    Ok(())
+    let text = "p=1\r";
+    let answer = read_inputs(rt.alloc(), text.as_bytes());
+    refused(&rt, answer, "BadLine { line: 1 }", text)
 }

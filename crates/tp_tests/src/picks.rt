@@ -10,17 +10,12 @@ const CHAIN: &str = "run A = B and B = C and C = 3 and empty.";
 const FLAT: &str = "run A = 1 and B = 2 and C = 3 and D = 4 and empty.";
 
 // A program, an order, how many reductions there may be, and what is picked.
-const PICKS: [(&str, Order, u64, &str); 13] = [
+const PICKS: [(&str, Order, u64, &str); 8] = [
     (CHAIN, Order::First, 9, "[0, 3, 4, 2, 1]"),
     (CHAIN, Order::Last, 9, "[0, 4, 3, 2, 1]"),
-    (CHAIN, Order::Seed(0), 9, "[0, 4, 3, 2, 1]"),
     (CHAIN, Order::Seed(7), 9, "[0, 3, 4, 2, 1]"),
     (CHAIN, Order::Last, 3, "[0, 4, 3]"),
     (FLAT, Order::Seed(0), 9, "[0, 3, 4, 5, 1, 2]"),
-    (FLAT, Order::Seed(1), 9, "[0, 5, 1, 2, 3, 4]"),
-    (FLAT, Order::Seed(2), 9, "[0, 1, 2, 3, 4, 5]"),
-    (FLAT, Order::Seed(3), 9, "[0, 5, 1, 2, 3, 4]"),
-    (FLAT, Order::Seed(7), 9, "[0, 4, 5, 1, 2, 3]"),
     (FLAT, Order::Seed(u64::MAX), 9, "[0, 4, 5, 1, 2, 3]"),
     (FLAT, Order::First, 9, "[0, 1, 2, 3, 4, 5]"),
     (FLAT, Order::Last, 9, "[0, 5, 4, 3, 2, 1]"),

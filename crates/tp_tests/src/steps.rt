@@ -181,7 +181,6 @@ fn told_items(alloc: Global, source: &str, picks: &[u8], room: u64) -> Result<St
 // A program, the items that are tried, how many reductions are left at each, and what is answered.
 const KINDS: &str = "
 run true. | 0 | 1 | 0+0 0, EndOpen [Some(Open), None, None] 0
-run 1 < 2. | 0 | 1 | 0+0 0, EndOpen [Some(Open), None, None] 0
 run false. | 0 | 1 | clash 1, Waiting(0) [Some(Open), None, None] 0
 run A < 2. | 0 | 0 | waits 1, Waiting(0) [Some(Open), None, None] 0
 run A = 1. | 0 | 1 | 0+1 0, EndOpen [Some(Open), None, None] 0
@@ -191,31 +190,26 @@ run empty. | 0 | 1 | 0+0! 0, Ends [Some(Ends), None, None] 0
 run more. | 0 | 1 | 0+0! 0, Goes [Some(Goes), None, None] 0
 run next true. | 01 | 1 | 1+0! 1, rests 1, Goes [Some(Goes), None, None] 0
 run always(true). | 012 | 1 | 2+0 2, 0+0 1, waits 1, Waiting(2) [Some(Open), None, None] 0
-run keep(true). | 01 | 1 | 2+0 2, waits 2, Waiting(1) [Some(Open), None, None] 0
 run fin(true). | 01 | 1 | 2+0 2, waits 2, Waiting(1) [Some(Open), None, None] 0
 run if true then true else empty. | 01 | 1 | 1+0 1, 0+0 0, EndOpen [Some(Open), None, None] 0
 run len(1). | 012 | 1 | 1+0 1, 1+0! 1, rests 1, Goes [Some(Goes), None, None] 0
 run display(6). | 01 | 1 | 1+0 1, rests 1, EndOpen [Some(Open), None, None] 1
 run display(1, A). | 0 | 1 | waits 1, Waiting(0) [Some(Open), None, None] 0
-run display(1 div 0). | 0 | 1 | clash 1, Waiting(0) [Some(Open), None, None] 0
 run input(A,p). | 0 | 1 | missing 1, Waiting(0) [Some(Open), None, None] 0
 run A <- 1. | 012 | 1 | 1+0 1, 2+0 2, waits 2, Waiting(2) [Some(Open), None, None] 0
 run exists A: A = 1. | 01 | 1 | 1+0 1, 0+1 0, EndOpen [Some(Open), None, None] 0
 define p(x) = A = x. run p(1). | 01 | 1 | 1+0 1, 0+1 0, EndOpen [Some(Open), None, None] 0
 define p(x) = true. run p(A). | 0 | 1 | waits 1, Waiting(0) [Some(Open), None, None] 0
-define p(x) = true. run p(1 div 0). | 0 | 1 | clash 1, Waiting(0) [Some(Open), None, None] 0
 define p(x) = true. run p(1). | 0 | 0 | over 1, Waiting(0) [Some(Open), None, None] 0
 ";
 
 // Programs of which one item meets what another has done.
 const MEETINGS: &str = "
 run more and empty. | 012 | 9 | 2+0 2, 0+0! 1, clash 1, Waiting(2) [Some(Goes), None, None] 0
-run empty and next true. | 012 | 9 | 2+0 2, 0+0! 1, clash 1, Waiting(2) [Some(Ends), None, None] 0
 run A = 1 and A = 2. | 012 | 9 | 2+0 2, 0+1 1, clash 1, Waiting(2) [Some(Open), None, None] 0
 run A = 1 and A < 2. | 0212 | 9 | 2+0 2, waits 2, 0+1 1, 0+0 0, EndOpen [Some(Open), None, None] 0
 run more and always(true). | 012453 | 9 | 2+0 2, 0+0! 1, 2+0 2, 1+0 2, rests 2, 0+0 1, Goes [Some(Goes), None, None] 0
 run empty and always(true). | 01243 | 9 | 2+0 2, 0+0! 1, 2+0 2, 0+0 1, 0+0 0, Ends [Some(Ends), None, None] 0
-run more and keep(true). | 012354 | 9 | 2+0 2, 0+0! 1, 2+0 2, 1+0 2, 0+0 1, 1+0 1, Goes [Some(Goes), None, None] 0
 run empty and fin(true). | 012354 | 9 | 2+0 2, 0+0! 1, 2+0 2, 1+0 2, 0+0 1, 0+0 0, Ends [Some(Ends), None, None] 0
 run next true and A = 1. | 01 | 9 | 2+0 2, 1+0! 2, Waiting(2) [Some(Goes), None, None] 0
 ";
@@ -225,7 +219,6 @@ const REGIONS: &str = "
 run empty ; A = 1. | 0123 | 9 | 2+0 2, 0+0! 1, 2+0 2, rests 2, Waiting(4) [Some(Open), Some(Ends), None] 0
 run more ; true. | 012 | 9 | 2+0 2, 0+0! 1, rests 1, Goes [Some(Goes), Some(Goes), None] 0
 run true ; true. | 012 | 9 | 2+0 2, 0+0 1, waits 1, Waiting(2) [Some(Open), Some(Open), None] 0
-run true ; true. | 0 | 0 | over 1, Waiting(0) [Some(Open), None, None] 0
 run while false do true. | 012 | 9 | 1+0 1, 1+0 1, 0+0! 0, Ends [Some(Ends), None, None] 0
 run while true do true. | 0123 | 9 | 1+0 1, 1+0 1, 2+0 2, 2+0 3, Waiting(5) [Some(Open), Some(Open), None] 0
 run for i < 0 do true. | 01 | 9 | 1+0 1, 0+0! 0, Ends [Some(Ends), None, None] 0

@@ -29,25 +29,14 @@ fn thing_to_add(alloc: Global, text: &str) -> Result<Added, Fail> {
     }
 }
 
-fn put(store: &mut Store, path: &Path, added: &Added) -> Result<usize, AddRefusal>
+fn put(store: &mut Store, path: &Path, added: &Added) -> Result<Facts, AddRefusal>
     requires { IsVariableOf store.old.variables path.now.var }
     ensures { store.new.variables ≡ store.old.variables }
 {
     match added {
-        Added::Value(value) => Ok(store.add(path, value)?.items.len()),
-        Added::Length(n) => Ok(store.add_length(path, *n)?.items.len()),
+        Added::Value(value) => store.add(path, value),
+        Added::Length(n) => store.add_length(path, *n),
     }
-}
-
-// The same without adding anything; nothing is new then.
-fn ask(store: &Store, path: &Path, added: &Added) -> Result<usize, AddRefusal>
-    requires { IsVariableOf store.now.variables path.now.var }
-{
-    match added {
-        Added::Value(value) => store.check(path, value)?,
-        Added::Length(n) => store.check_length(path, *n)?,
-    }
-    Ok(0)
 }
 
 // Of how many indices the kept and the new fact of a clash are.
@@ -64,9 +53,9 @@ fn clash_text(alloc: Global, refusal: &AddRefusal) -> Result<String, NoMemory> {
 }
 
 // How many facts are new, or why there are none.
-fn answer(alloc: Global, answer: Result<usize, AddRefusal>) -> Result<String, NoMemory> {
+fn answer(alloc: Global, answer: Result<Facts, AddRefusal>) -> Result<String, NoMemory> {
     match answer {
-        Ok(count) => Ok(format!(in alloc; "{count} new")?),
+        Ok(news) => Ok(format!(in alloc; "{} new", news.items.len())?),
         Err(refusal) => clash_text(alloc, &refusal),
     }
 }
@@ -81,22 +70,22 @@ fn known(alloc: Global, known: &Known) -> Result<String, NoMemory> {
     }
 }
 
-// A place, what is added there, what the store says when it is asked and when it is done, and a place and what is known there then.
+// A place, what is added there, what the store answers, and a place and what is known there then.
 const FILLED: &str = "
-A[1] | 7 | 0 new | 1 new | A | open at []
-A | length 1 | 1 against 0 | 1 against 0 | A | open at []
-A | length 2 | 0 new | 1 new | A | open at [0]
-A | length 2 | 0 new | 0 new | A | open at [0]
-A[2] | 7 | 0 against 1 | 0 against 1 | A[2] | absent
-A[0] | 8 | 0 new | 1 new | A | known
-A[1] | 8 | 1 against 1 | 1 against 1 | A | known
-A | 8 | 0 against 0 | 0 against 0 | A | known
+A[1] | 7 | 1 new | A | open at []
+A | length 1 | 1 against 0 | A | open at []
+A | length 2 | 1 new | A | open at [0]
+A | length 2 | 0 new | A | open at [0]
+A[2] | 7 | 0 against 1 | A[2] | absent
+A[0] | 8 | 1 new | A | known
+A[1] | 8 | 1 against 1 | A | known
+A | 8 | 0 against 0 | A | known
 ";
 
 const LISTED: &str = "
-A | <6,6> | 0 new | 3 new | A[1] | known
-A[0] | 6 | 0 new | 0 new | A[0][0] | absent
-A[0] | true | 1 against 1 | 1 against 1 | A[2] | absent
+A | <6,6> | 3 new | A[1] | known
+A[0] | 6 | 0 new | A[0][0] | absent
+A[0] | true | 1 against 1 | A[2] | absent
 ";
 
 // The place of the variable A that is written so.
@@ -111,13 +100,12 @@ fn place(alloc: Global, text: &str) -> Result<Path, Fail>
     Ok(place)
 }
 
-// Asks whether this can be added, and adds it, or not.
+// Adds this, or not.
 fn expect_added(
     rt: &(impl Abort + AllocGlobal),
     store: &mut Store,
     at: &str,
     adding: &str,
-    asked: &str,
     done: &str,
 ) -> Result<(), Fail>
     requires { store.old.variables ≡ global_variable (65 ∷ []) ∷ [] }
@@ -125,8 +113,6 @@ fn expect_added(
 {
     let here = place(rt.alloc(), at)?;
     let adding = thing_to_add(rt.alloc(), adding)?;
-    let found = ask(store, &here, &adding);
-    same_text(rt, answer(rt.alloc(), found)?.as_str(), asked, at);
     let news = put(store, &here, &adding);
     same_text(rt, answer(rt.alloc(), news)?.as_str(), done, at);
     Ok(())
@@ -152,10 +138,10 @@ fn expect(rt: &(impl Abort + AllocGlobal), store: &mut Store, row: &str) -> Resu
     ensures { store.new.variables ≡ store.old.variables }
 {
     let row = parts(rt.alloc(), row, '|')?;
-    let [at, adding, asked, done, there, text] = row.as_slice() else {
+    let [at, adding, done, there, text] = row.as_slice() else {
         return Err("no row".into());
     };
-    expect_added(rt, store, at, adding, asked, done)?;
+    expect_added(rt, store, at, adding, done)?;
     expect_known(rt, store, there, text)
 }
 

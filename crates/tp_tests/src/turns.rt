@@ -50,16 +50,10 @@ const ENDS: [(Turn, &str); 5] = [
     ),
 ];
 
-const CLASHES: [(Clash, &str); 3] = [
-    (Clash::False, "contradictory: state 1: false\n"),
-    (
-        Clash::Marks { depth: 1 },
-        "contradictory: state 1: ends and goes on at depth 1\n",
-    ),
-    (
-        Clash::NoValue(FaultKind::NoElement),
-        "contradictory: state 1: no value: no element\n",
-    ),
+const CLASHES: [Clash; 3] = [
+    Clash::False,
+    Clash::Marks { depth: 1 },
+    Clash::NoValue(FaultKind::NoElement),
 ];
 
 #[test]
@@ -67,8 +61,9 @@ fn ends_are_told(rt: HostRuntime) -> Result<(), Fail> {
     for (turn, text) in &ENDS {
         expect(&rt, turn, text)?;
     }
-    for (clash, text) in CLASHES {
-        expect(&rt, &Turn::Contradictory { state: 1, clash }, text)?;
+    for clash in CLASHES {
+        let turn = Turn::Contradictory { state: 1, clash };
+        same_shown(&rt, &turn.copy()?, &turn, "a clash")?;
     }
     Ok(())
 }
