@@ -12,6 +12,7 @@ ghost use Rattle.tp_agenda.specs.Agenda.{FollowsAgenda, IsThrifty};
 ghost use Rattle.tp_agenda.specs.Counted.{ClosesWith, CountsTries, WaitedForUndecided};
 ghost use Rattle.tp_agenda.specs.Board.{FitsBoard, HasFlags, TakenAreKnown};
 ghost use Rattle.tp_agenda.specs.Held.{IsHeld, nothing_due};
+ghost use Rattle.tp_store.specs.Stock.{contents_in};
 
 use crate::board::Board;
 use std::sync::ledger::Ledger;
@@ -51,25 +52,25 @@ fn try_ready<L: Ledger>(
     steps: &mut Steps<L>,
 ) -> Result<Ending, NoMemory>
     requires sound { (kinds : List Bool)
-        × IsSound (setting_of setting.now) kinds (moment_of scene.old store.old) }
+        × IsSound (setting_of setting.now) kinds (moment_of scene.old (contents_in store.old)) }
     requires kept { IsWellKept scene.old }
     requires no_waits { tally.old.waits.items.items ≡ [] }
     requires no_rests { tally.old.rests ≡ [] }
     requires fits { FitsBoard [] agenda.old.board }
     requires flags { HasFlags (scene_of scene.old) agenda.old.board }
     requires taken { TakenAreKnown (scene_of scene.old) agenda.old.board }
-    requires held { IsHeld (setting_of setting.now) (moment_of scene.old store.old) [] []
-        agenda.old.board.over.items agenda.old.board.ready nothing_due }
+    requires held { IsHeld (setting_of setting.now) (moment_of scene.old (contents_in store.old))
+        [] [] agenda.old.board.over.items agenda.old.board.ready nothing_due }
     ensures kept { IsWellKept scene.new }
     ensures closes { IfOk result
-        (ClosesWith (setting_of setting.now) (moment_of scene.old store.old)
-        (moment_of scene.new store.new) agenda.old.course.order agenda.old.course.room
+        (ClosesWith (setting_of setting.now) (moment_of scene.old (contents_in store.old))
+        (moment_of scene.new (contents_in store.new)) agenda.old.course.order agenda.old.course.room
         tally.old.picks tally.new.picks tally.new.waits.items.items tally.new.rests
         steps.old steps.new) }
     ensures err { OnErr result
         ((left : ℕ)
-        × Made (setting_of setting.now) (moment_of scene.old store.old)
-        (moment_of scene.new store.new) agenda.old.course.room left tally.old.picks
+        × Made (setting_of setting.now) (moment_of scene.old (contents_in store.old))
+        (moment_of scene.new (contents_in store.new)) agenda.old.course.room left tally.old.picks
         tally.new.picks) }
 {
     'tries: while let Some(item) = agenda.board.next(&mut agenda.course.order) {
@@ -102,36 +103,39 @@ pub fn close_by_agenda<L: Ledger>(
     steps: &mut Steps<L>,
 ) -> Result<Ending, NoMemory>
     requires sound { (kinds : List Bool)
-        × IsSound (setting_of setting.now) kinds (moment_of scene.old store.old) }
+        × IsSound (setting_of setting.now) kinds (moment_of scene.old (contents_in store.old)) }
     requires kept { IsWellKept scene.old }
     requires no_waits { tally.old.waits.items.items ≡ [] }
     requires no_rests { tally.old.rests ≡ [] }
     ensures sound { IfOk result (λ ending.
         (kinds : List Bool)
-        → IsSound (setting_of setting.now) kinds (moment_of scene.old store.old)
-        → IsSound (setting_of setting.now) kinds (moment_of scene.new store.new)) }
+        → IsSound (setting_of setting.now) kinds (moment_of scene.old (contents_in store.old))
+        → IsSound (setting_of setting.now) kinds (moment_of scene.new (contents_in store.new))) }
     ensures kept { IsWellKept scene.new }
     ensures closes { IfOk result
-        (ClosureAnswers (setting_of setting.now) course.room (moment_of scene.old store.old)
-        (moment_of scene.new store.new) tally.old.picks tally.new.picks) }
+        (ClosureAnswers (setting_of setting.now) course.room
+        (moment_of scene.old (contents_in store.old)) (moment_of scene.new (contents_in store.new))
+        tally.old.picks tally.new.picks) }
     ensures err { OnErr result
         ((left : ℕ)
-        × Made (setting_of setting.now) (moment_of scene.old store.old)
-        (moment_of scene.new store.new) course.room left tally.old.picks tally.new.picks) }
+        × Made (setting_of setting.now) (moment_of scene.old (contents_in store.old))
+        (moment_of scene.new (contents_in store.new)) course.room left tally.old.picks
+        tally.new.picks) }
     ensures order { IfOk result
         (FollowsAgenda (setting_of setting.now) course.order course.room
-        (moment_of scene.old store.old) (moment_of scene.new store.new) tally.old.picks
-        tally.new.picks tally.new.waits.items.items tally.new.rests) }
+        (moment_of scene.old (contents_in store.old)) (moment_of scene.new (contents_in store.new))
+        tally.old.picks tally.new.picks tally.new.waits.items.items tally.new.rests) }
     ensures commutes { IfOk result
-        (ClosureCommutes (setting_of setting.now) course.room (moment_of scene.old store.old)
-        (moment_of scene.new store.new) tally.old.picks tally.new.picks) }
-    ensures room { IfOk result
-        (ClosureKeepsRoom (setting_of setting.now) course.room (moment_of scene.new store.new)
+        (ClosureCommutes (setting_of setting.now) course.room
+        (moment_of scene.old (contents_in store.old)) (moment_of scene.new (contents_in store.new))
         tally.old.picks tally.new.picks) }
+    ensures room { IfOk result
+        (ClosureKeepsRoom (setting_of setting.now) course.room
+        (moment_of scene.new (contents_in store.new)) tally.old.picks tally.new.picks) }
     ensures thrifty { IfOk result (λ ending.
         IsThrifty tally.new.waits.items.items tally.new.rests) }
     ensures undecided { IfOk result (λ ending.
-        WaitedForUndecided (setting_of setting.now) (moment_of scene.old store.old)
+        WaitedForUndecided (setting_of setting.now) (moment_of scene.old (contents_in store.old))
         tally.old.picks tally.new.picks tally.new.waits.items.items) }
     ensures steps { IfOk result
         (CountsTries steps.old steps.new tally.old.picks tally.new.picks

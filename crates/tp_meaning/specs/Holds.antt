@@ -42,8 +42,8 @@ Pieces P zero k a b S = (a ≡ b) × (S ≡ blank)
 Pieces P (suc m) k a b S = Chopped (P k) (Pieces P m (k +ℤ pos 1)) a b S
 
 -- Projection: cuts c 0, .., c m from a to b, `piece` on each interval between two of them, and
--- `outer c` on the interval of the cut states. The cuts are the first of a sequence that rises on
--- without end; its positions after c m play no part.
+-- `outer c` on the interval of the cut states. In one state there is one cut and no piece. The cuts
+-- are the first of a sequence that rises on without end; its positions after c m play no part.
 abbrev pub Projected : Part → ((ℕ → ℕ) → Part) → Part
 Projected piece outer a b S =
     (c : ℕ → ℕ) × (m : ℕ) × (V : Shows) × (T : ℕ → Shows)

@@ -4,7 +4,8 @@ use Rattle.std.specs.List.{AllZip, flat_map, list_any}
 use Rattle.std.proofs.lemmas.Bool.{or_from, or_left}
 use Rattle.std.proofs.lemmas.Slice.Zip.{AllZip-long}
 use Rattle.tp_value.specs.declared.path.Fact.{Fact}
-use Rattle.tp_store.specs.Known.{Contents, lasting_facts}
+use Rattle.tp_store.specs.Known.{lasting_facts}
+use Rattle.tp_store.specs.Stock.{Stock}
 use Rattle.tp_store.proofs.Members.{in_right}
 use Rattle.tp_verdict.specs.Wide.{WideTree}
 use Rattle.tp_verdict.specs.Verdict.{no}
@@ -24,13 +25,13 @@ torn_by_all w [] some h = absurd (cc)
 torn_by_all w (own ∷ xs) some h = torn_so w (own ∷ xs)
     (or_left (clash_somewhere (own ++ flat_map lasting_facts (own ∷ xs))) _ (clash_more (flat_map lasting_facts (own ∷ xs)) (own ++ flat_map lasting_facts (own ∷ xs)) (λ f i. in_right f own (flat_map lasting_facts (own ∷ xs)) i) h))
 
-none_torn : (l : List Fact) (stores : List Contents) (states : FactsOfStates) → EachStandsFor stores states l → list_any (λ own. clash_somewhere (own ++ l)) states ≡ false
+none_torn : (l : List Fact) (stores : List Stock) (states : FactsOfStates) → EachStandsFor stores states l → list_any (λ own. clash_somewhere (own ++ l)) states ≡ false
 none_torn l [] [] h = refl
 none_torn l [] (x ∷ xs) h = absurd h
 none_torn l (s ∷ ss) [] h = absurd h
 none_torn l (s ∷ ss) (x ∷ xs) h = or_from (clash_somewhere (x ++ l)) (list_any (λ own. clash_somewhere (own ++ l)) xs) h.0.apart (none_torn l ss xs h.1)
 
-zip_at : (Q : Contents → List Fact → Type 0) (ss : List Contents) (xs : FactsOfStates) → AllZip Q ss xs → (i : ℕ) (x : List Fact) (s : Contents) → slice_get xs i ≡ Some x → slice_get ss i ≡ Some s → Q s x
+zip_at : (Q : Stock → List Fact → Type 0) (ss : List Stock) (xs : FactsOfStates) → AllZip Q ss xs → (i : ℕ) (x : List Fact) (s : Stock) → slice_get xs i ≡ Some x → slice_get ss i ≡ Some s → Q s x
 zip_at Q [] [] h i x s e d = absurd (cc)
 zip_at Q [] (y ∷ xs) h i x s e d = absurd h
 zip_at Q (r ∷ ss) [] h i x s e d = absurd h
@@ -45,13 +46,13 @@ module _ (trace : FactsOfStates) (lasting : List Fact) (s : StandFor lasting (fl
   pub torn_with : (w : WideTree) → list_any (λ own. clash_somewhere (own ++ lasting)) trace ≡ true → whole_verdict w trace ≡ no
   torn_with w h = torn_so w trace (sym same_torn ∙ h)
 
-  pub whole_with : (w : WideTree) (stores : List Contents) → 0 < length trace → EachStandsFor stores trace lasting
+  pub whole_with : (w : WideTree) (stores : List Stock) → 0 < length trace → EachStandsFor stores trace lasting
       → whole_verdict w trace ≡ verdict (found_in stores) w 0 (length stores - 1)
   whole_with w stores some h = whole_by_stores trace stores (sym same_torn ∙ none_torn lasting stores trace h)
-      (sym (AllZip-long (λ (s : Contents) (own : List Fact). StandFor s.facts (own ++ lasting)) stores trace h)) kept w some
+      (sym (AllZip-long (λ (s : Stock) (own : List Fact). StandFor s.facts (own ++ lasting)) stores trace h)) kept w some
     where
-      kept : (i : ℕ) (own : List Fact) (state : Contents) → slice_get trace i ≡ Some own → slice_get stores i ≡ Some state → IsKept trace own state
+      kept : (i : ℕ) (own : List Fact) (state : Stock) → slice_get trace i ≡ Some own → slice_get stores i ≡ Some state → IsKept trace own state
       kept i own state e d =
-          let z = zip_at (λ (s : Contents) (own : List Fact). StandFor s.facts (own ++ lasting)) stores trace h i own state e d in
+          let z = zip_at (λ (s : Stock) (own : List Fact). StandFor s.facts (own ++ lasting)) stores trace h i own state e d in
           let r = stand_beside lasting (flat_map lasting_facts trace) s own state.facts z in
           (r.no_clash, r.shapes)

@@ -2,7 +2,8 @@
 use Rattle.std.specs.Prelude.{◌≡◌, false, List, ◌++◌}
 use Rattle.std.specs.List.{AllZip}
 use Rattle.tp_value.specs.declared.path.Fact.{Fact}
-use Rattle.tp_store.specs.Known.{Contents, NoClash}
+use Rattle.tp_store.specs.Known.{NoClash}
+use Rattle.tp_store.specs.Stock.{Stock}
 use Rattle.tp_store.specs.Changes.{HaveSameShapes}
 use Rattle.tp_verdict.specs.Trace.{clash_somewhere}
 
@@ -14,8 +15,8 @@ pub record StandFor (facts all : List Fact) : Type 0 where
   pub shapes : HaveSameShapes facts all
 
 -- For each state the facts of a store stand for those of the state and for the lasting ones.
-abbrev pub EachStandsFor : List Contents → (states : List (List Fact)) → (lasting : List Fact)
+abbrev pub EachStandsFor : List Stock → (states : List (List Fact)) → (lasting : List Fact)
     → Type 0
 EachStandsFor stores states lasting =
-    AllZip (λ (store : Contents) (own : List Fact). StandFor store.facts (own ++ lasting)) stores
+    AllZip (λ (store : Stock) (own : List Fact). StandFor store.facts (own ++ lasting)) stores
     states

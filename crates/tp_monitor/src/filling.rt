@@ -3,6 +3,7 @@ ghost use Rattle.std.specs.Prelude.{◌≡◌, ◌++◌, ◌∷◌, [], IfOk, If
 ghost use Rattle.std.specs.List.{list_any};
 ghost use Rattle.tp_meaning.specs.Interval.{kinds_of};
 ghost use Rattle.tp_store.specs.Known.{addition, adds, AreOfVariables, IsVariableOf};
+ghost use Rattle.tp_store.specs.Stock.{contents_in};
 ghost use Rattle.tp_store.specs.Answers.{IsRefusal};
 ghost use Rattle.tp_store.specs.Changes.{AddsFacts, IsSoundStore};
 ghost use Rattle.tp_verdict.specs.Trace.{clash_somewhere};
@@ -19,9 +20,10 @@ fn add_fact(store: &mut Store, fact: &Fact) -> Result<Facts, AddRefusal>
     ensures news { IfOk result (λ news.
         addition store.old.facts (fact.now ∷ []) ≡ adds news) }
     ensures refused { IfErr result (IsRefusal (addition store.old.facts (fact.now ∷ []))) }
-    ensures added { IfOk result (λ news. AddsFacts store.old news store.new) }
-    ensures err { OnErr result (store.new ≡ store.old) }
-    ensures sound { IsSoundStore store.new }
+    ensures added { IfOk result (λ news.
+        AddsFacts (contents_in store.old) news (contents_in store.new)) }
+    ensures err { OnErr result (contents_in store.new ≡ contents_in store.old) }
+    ensures sound { IsSoundStore (contents_in store.new) }
 {
     match fact.shape {
         Shape::Num(n) => store.add(&fact.path, &Value::Num(n)),
@@ -32,14 +34,14 @@ fn add_fact(store: &mut Store, fact: &Fact) -> Result<Facts, AddRefusal>
 
 // Adds the facts. No where one clashes with those before it.
 fn add_all(store: &mut Store, facts: &[Fact]) -> Result<bool, NoMemory>
-    requires sound { IsSoundStore store.old }
+    requires sound { IsSoundStore (contents_in store.old) }
     requires variables { AreOfVariables store.old.variables facts.now }
     ensures clash { IfOk result (λ fits. fits ≡ false
         → clash_somewhere (store.old.facts ++ facts.now) ≡ true) }
     ensures facts { IfOk result (λ fits. fits ≡ true
         → StandFor store.new.facts (store.old.facts ++ facts.now)) }
     ensures variables { IfOk result (λ fits. store.new.variables ≡ store.old.variables) }
-    ensures sound { IfOk result (λ fits. IsSoundStore store.new) }
+    ensures sound { IfOk result (λ fits. IsSoundStore (contents_in store.new)) }
 {
     for fact in facts {
         match add_fact(store, fact) {

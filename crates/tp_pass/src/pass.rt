@@ -9,6 +9,7 @@ ghost use Rattle.tp_step.specs.EveryRest.{ClosureCommutes};
 ghost use Rattle.tp_step.specs.Room.{ClosureKeepsRoom};
 ghost use Rattle.tp_pass.specs.Follows.{FollowsOrder};
 ghost use Rattle.tp_pass.specs.Passes.{MakesPass};
+ghost use Rattle.tp_store.specs.Stock.{contents_in};
 
 use crate::sweep::Sweep;
 use std::sync::ledger::Ledger;
@@ -61,17 +62,17 @@ fn pass<L: Ledger>(
     steps: &mut Steps<L>,
 ) -> Result<Option<Ending>, NoMemory>
     requires sound { (kinds : List Bool)
-        × IsSound (setting_of setting.now) kinds (moment_of scene.old store.old) }
+        × IsSound (setting_of setting.now) kinds (moment_of scene.old (contents_in store.old)) }
     requires kept { IsWellKept scene.old }
     ensures kept { IsWellKept scene.new }
     ensures made { IfOk result
-        (MakesPass (setting_of setting.now) (moment_of scene.old store.old)
-        (moment_of scene.new store.new) course.old.order course.new.order course.old.room
-        course.new.room tally.old.picks tally.new.picks) }
+        (MakesPass (setting_of setting.now) (moment_of scene.old (contents_in store.old))
+        (moment_of scene.new (contents_in store.new)) course.old.order course.new.order
+        course.old.room course.new.room tally.old.picks tally.new.picks) }
     ensures err { OnErr result
-        (Made (setting_of setting.now) (moment_of scene.old store.old)
-        (moment_of scene.new store.new) course.old.room course.new.room tally.old.picks
-        tally.new.picks) }
+        (Made (setting_of setting.now) (moment_of scene.old (contents_in store.old))
+        (moment_of scene.new (contents_in store.new)) course.old.room course.new.room
+        tally.old.picks tally.new.picks) }
     ensures waits { tally.new.waits ≡ tally.old.waits }
     ensures rests { tally.new.rests ≡ tally.old.rests }
 {
@@ -109,30 +110,33 @@ pub fn close_by_passes<L: Ledger>(
     steps: &mut Steps<L>,
 ) -> Result<Ending, NoMemory>
     requires sound { (kinds : List Bool)
-        × IsSound (setting_of setting.now) kinds (moment_of scene.old store.old) }
+        × IsSound (setting_of setting.now) kinds (moment_of scene.old (contents_in store.old)) }
     requires kept { IsWellKept scene.old }
     ensures sound { IfOk result (λ ending.
         (kinds : List Bool)
-        → IsSound (setting_of setting.now) kinds (moment_of scene.old store.old)
-        → IsSound (setting_of setting.now) kinds (moment_of scene.new store.new)) }
+        → IsSound (setting_of setting.now) kinds (moment_of scene.old (contents_in store.old))
+        → IsSound (setting_of setting.now) kinds (moment_of scene.new (contents_in store.new))) }
     ensures kept { IsWellKept scene.new }
     ensures closes { IfOk result
-        (ClosureAnswers (setting_of setting.now) course.room (moment_of scene.old store.old)
-        (moment_of scene.new store.new) tally.old.picks tally.new.picks) }
+        (ClosureAnswers (setting_of setting.now) course.room
+        (moment_of scene.old (contents_in store.old)) (moment_of scene.new (contents_in store.new))
+        tally.old.picks tally.new.picks) }
     ensures err { OnErr result
         ((left : ℕ)
-        × Made (setting_of setting.now) (moment_of scene.old store.old)
-        (moment_of scene.new store.new) course.room left tally.old.picks tally.new.picks) }
+        × Made (setting_of setting.now) (moment_of scene.old (contents_in store.old))
+        (moment_of scene.new (contents_in store.new)) course.room left tally.old.picks
+        tally.new.picks) }
     ensures order { IfOk result
         (FollowsOrder (setting_of setting.now) course.order course.room
-        (moment_of scene.old store.old) (moment_of scene.new store.new) tally.old.picks
-        tally.new.picks) }
-    ensures commutes { IfOk result
-        (ClosureCommutes (setting_of setting.now) course.room (moment_of scene.old store.old)
-        (moment_of scene.new store.new) tally.old.picks tally.new.picks) }
-    ensures room { IfOk result
-        (ClosureKeepsRoom (setting_of setting.now) course.room (moment_of scene.new store.new)
+        (moment_of scene.old (contents_in store.old)) (moment_of scene.new (contents_in store.new))
         tally.old.picks tally.new.picks) }
+    ensures commutes { IfOk result
+        (ClosureCommutes (setting_of setting.now) course.room
+        (moment_of scene.old (contents_in store.old)) (moment_of scene.new (contents_in store.new))
+        tally.old.picks tally.new.picks) }
+    ensures room { IfOk result
+        (ClosureKeepsRoom (setting_of setting.now) course.room
+        (moment_of scene.new (contents_in store.new)) tally.old.picks tally.new.picks) }
     ensures waits { tally.new.waits ≡ tally.old.waits }
     ensures rests { tally.new.rests ≡ tally.old.rests }
 {

@@ -14,6 +14,7 @@ use Rattle.tp_meaning.specs.Fits.{ProgramFits}
 use Rattle.tp_decide.specs.Decided.{setting_of}
 use Rattle.tp_decide.specs.Read.{shows_of}
 use Rattle.tp_store.specs.Known.{Contents, Variable}
+use Rattle.tp_store.specs.Stock.{Stock, contents_in}
 use Rattle.tp_scene.specs.declared.answer.Cell.{Cell}
 use Rattle.tp_scene.specs.declared.answer.Clash.{Clash}
 use Rattle.tp_scene.specs.Step.{reduces, waits, rests, clashes, misses, passes}
@@ -337,10 +338,10 @@ stands_sound plan n (answered turn m) h = tt
 stands_sound plan n spent h = tt
 
 -- the run with another store, stand and tally, before a state with this number
-abbrev pub moved : Run → (next : ℕ) → Contents → Stand → Tally → Run
+abbrev pub moved : Run → (next : ℕ) → Stock → Stand → Tally → Run
 moved run next store stand tally = record run { state = next; store = store; stand = stand; tally = tally }
 
-with_stand : (plan : Plan) (run : Run) (next : ℕ) (store : Contents) (stand : Stand) (tally : Tally) → IsRunOf plan run → next ≤ plan.states → StandsOrderly plan next (stands_at stand store) → StandIsKept stand → StandIsOf store.variables stand
+with_stand : (plan : Plan) (run : Run) (next : ℕ) (store : Stock) (stand : Stand) (tally : Tally) → IsRunOf plan run → next ≤ plan.states → StandsOrderly plan next (stands_at stand (contents_in store)) → StandIsKept stand → StandIsOf store.variables stand
     → IsRunOf plan (moved run next store stand tally)
 with_stand plan run next store stand tally h within orderly kept named = record {
   program = h.program;
@@ -378,26 +379,26 @@ settings_of_run plan run settings h limits inputs definitions globals = record {
 }
 
 -- what the answer for a state leaves
-module _ (plan : Plan) (run : Run) (is_run : IsRunOf plan run) (m : Moment) (opened : open_at m ≡ standing_of run) (old new : Picture) (store : Contents) (stand : Stand) (turn : Turn)
-    (becomes : StateBecomes plan run.state m old new (stands_at stand store) store turn) where
+module _ (plan : Plan) (run : Run) (is_run : IsRunOf plan run) (m : Moment) (opened : open_at m ≡ standing_of run) (old new : Picture) (store : Stock) (stand : Stand) (turn : Turn)
+    (becomes : StateBecomes plan run.state m old new (stands_at stand (contents_in store)) (contents_in store) turn) where
   orderly_here : Orderly plan run.state m
   orderly_here = orderly_at plan run m is_run opened
 
-  pub answers_state : (next : ℕ) → next ≡ state_after run.state turn → AnswersState plan (standing_place run) old new (record { standing = stands_at stand store; state = next; store = store }) turn
-  answers_state next e = subst (λ (z : Standing). AnswersState plan (record { standing = z; state = run.state; store = store_of run }) old new (record { standing = stands_at stand store; state = next; store = store }) turn) opened (becomes, e)
+  pub answers_state : (next : ℕ) → next ≡ state_after run.state turn → AnswersState plan (standing_place run) old new (record { standing = stands_at stand (contents_in store); state = next; store = contents_in store }) turn
+  answers_state next e = subst (λ (z : Standing). AnswersState plan (record { standing = z; state = run.state; store = store_of run }) old new (record { standing = stands_at stand (contents_in store); state = next; store = contents_in store }) turn) opened (becomes, e)
 
-  pub answer_means : AnswerMeans plan run.state (standing_of run) (stands_at stand store) new turn
-  answer_means = subst (λ (z : Standing). AnswerMeans plan run.state z (stands_at stand store) new turn) opened (becomes_means plan run.state m old new (stands_at stand store) store orderly_here turn becomes)
+  pub answer_means : AnswerMeans plan run.state (standing_of run) (stands_at stand (contents_in store)) new turn
+  answer_means = subst (λ (z : Standing). AnswerMeans plan run.state z (stands_at stand (contents_in store)) new turn) opened (becomes_means plan run.state m old new (stands_at stand (contents_in store)) (contents_in store) orderly_here turn becomes)
 
   pub run_kept : (next : ℕ) (tally : Tally) → next ≡ state_after run.state turn → StandIsKept stand → StandIsOf store.variables stand → IsRunOf plan (moved run next store stand tally)
   run_kept next tally e kept named =
-      let on = becomes_orderly plan run.state m old new (stands_at stand store) store orderly_here turn becomes in
-      with_stand plan run next store stand tally is_run (subst (λ k. k ≤ plan.states) (sym e) on.within) (subst (λ k. StandsOrderly plan k (stands_at stand store)) (sym e) on.stands) kept named
+      let on = becomes_orderly plan run.state m old new (stands_at stand (contents_in store)) (contents_in store) orderly_here turn becomes in
+      with_stand plan run next store stand tally is_run (subst (λ k. k ≤ plan.states) (sym e) on.within) (subst (λ k. StandsOrderly plan k (stands_at stand (contents_in store))) (sym e) on.stands) kept named
 
   pub answer_agrees : AnswerAgrees plan run.state (standing_of run) new turn
   answer_agrees = subst (λ (z : Standing). AnswerAgrees plan run.state z new turn) opened
-      (state_agrees plan run.state m orderly_here old new (stands_at stand store) store turn becomes)
+      (state_agrees plan run.state m orderly_here old new (stands_at stand (contents_in store)) (contents_in store) turn becomes)
 
   pub answer_goes_on : AnswerHasNoDeadEnd plan run.state (standing_of run) new turn
   answer_goes_on = subst (λ (z : Standing). AnswerHasNoDeadEnd plan run.state z new turn) opened
-      (no_dead_end plan run.state m orderly_here old new (stands_at stand store) store turn becomes)
+      (no_dead_end plan run.state m orderly_here old new (stands_at stand (contents_in store)) (contents_in store) turn becomes)

@@ -2,6 +2,7 @@
 use Rattle.std.proofs.Common.{◌≡◌, ℕ, List, [], ◌∷◌, ◌++◌, Option, Some, None, refl, ap, sym, ◌∙◌, subst, append_assoc}
 use Rattle.std.proofs.lemmas.List.{append-nil}
 use Rattle.tp_store.specs.Known.{Contents, Variable}
+use Rattle.tp_store.specs.Stock.{contents_in}
 use Rattle.tp_scene.specs.Pick.{Setting, Moment, Leads, with_local}
 use Rattle.tp_slots.specs.declared.scene.Scene.{Scene}
 use Rattle.tp_step.specs.Answers.{moment_of}
@@ -75,7 +76,7 @@ pub all_stay : (k : Contents) → HasFirst k.variables k.variables
 all_stay k = first_all k.variables k.variables refl
 
 -- the same of a run that stood before this state
-module _ (plan : Plan) (run : Run) (m : Moment) (same : m.store ≡ run.store) (old new : Picture) (standing : Standing) (store : Contents) (turn : Turn)
+module _ (plan : Plan) (run : Run) (m : Moment) (same : m.store ≡ contents_in run.store) (old new : Picture) (standing : Standing) (store : Contents) (turn : Turn)
     (becomes : StateBecomes plan run.state m old new standing store turn) where
   pub leaves_variables : HasFirst run.store.variables store.variables
   leaves_variables = subst (λ (k : Contents). HasFirst k.variables store.variables) same (first_stay plan run.state m old new standing store turn becomes)

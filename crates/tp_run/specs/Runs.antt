@@ -3,6 +3,7 @@ use Rattle.std.specs.Prelude.{◌≡◌, ℕ, zero, suc, ◌≤◌, List, ◌++�
 use Rattle.tp_kernel.specs.Read.{definitions_of}
 use Rattle.tp_inputs.specs.Read.{inputs_of}
 use Rattle.tp_store.specs.Known.{Contents, Variable}
+use Rattle.tp_store.specs.Stock.{contents_in}
 use Rattle.tp_decide.specs.Read.{shows_of}
 use Rattle.tp_slots.specs.Kept.{IsWellKept}
 use Rattle.tp_step.specs.Answers.{moment_of}
@@ -41,7 +42,7 @@ program_of run = program_tree run.program
 
 -- where the run stands, and the number of the state that it makes next
 abbrev pub standing_of : Run → Standing
-standing_of run = stands_at run.stand run.store
+standing_of run = stands_at run.stand (contents_in run.store)
 
 abbrev pub next_state_of : Run → ℕ
 next_state_of run = run.state
@@ -76,7 +77,7 @@ MadeIsOf xs made = TurnIsOf xs made.turn × StandIsOf xs made.stand
 
 -- what its store holds
 abbrev pub store_of : Run → Contents
-store_of run = run.store
+store_of run = contents_in run.store
 
 -- all of these
 abbrev pub standing_place : Run → RunPlace

@@ -6,6 +6,7 @@ ghost use Rattle.tp_meaning.specs.Fits.{ProgramFits};
 ghost use Rattle.tp_check.specs.Read.{program_tree};
 ghost use Rattle.tp_inputs.specs.Read.{inputs_of};
 ghost use Rattle.tp_store.specs.Known.{new_store};
+ghost use Rattle.tp_store.specs.Stock.{contents_in};
 ghost use Rattle.tp_meaning.specs.Interval.{kinds_of};
 ghost use Rattle.tp_scene.specs.Step.{waits};
 ghost use Rattle.tp_scene.specs.Pick.{Moment, outcome_of};
@@ -106,15 +107,17 @@ impl<'a> Settings<'a> {
     ) -> Result<Cell, NoMemory>
         requires kept { IsWellKept scene.old }
         requires sound { (kinds : List Bool)
-            × IsSound (setting_of self.now.setting) kinds (moment_of scene.old store.old) }
-        requires rests { AtRest (setting_of self.now.setting) (moment_of scene.old store.old) }
+            × IsSound (setting_of self.now.setting) kinds
+            (moment_of scene.old (contents_in store.old)) }
+        requires rests { AtRest (setting_of self.now.setting)
+            (moment_of scene.old (contents_in store.old)) }
         requires item { rest.settled (scene_of scene.old) ≡ rest.waiting item }
         ensures cell { IfOk result (λ cell.
             (other : Option Cell)
-            × (outcome_of (setting_of self.now.setting) store.old (scene_of scene.old) item
-            ≡ waits cell other)) }
+            × (outcome_of (setting_of self.now.setting) (contents_in store.old)
+            (scene_of scene.old) item ≡ waits cell other)) }
         ensures scene { OnOk result (scene_of scene.new ≡ scene_of scene.old) }
-        ensures store { OnOk result (store.new ≡ store.old) }
+        ensures store { OnOk result (contents_in store.new ≡ contents_in store.old) }
         ensures kept { IsWellKept scene.new }
         ensures named { IfOk result (CellIsOf store.new.variables) }
         ensures steps { steps.new ≡ steps.old + 1 }
@@ -137,7 +140,7 @@ impl<'a> Settings<'a> {
         requires { IsWellKept scene }
         ensures picture { OnOk result
             (HasPicture self.now.globals self.now.setting.state reductions
-            (moment_of scene store.now) picture.new) }
+            (moment_of scene (contents_in store.now)) picture.new) }
         ensures stand { IfOk result (λ made.
             made.stand ≡ Stand.Answered (Turn.Finished self.now.setting.state) scene) }
         ensures turn { IfOk result (λ made. made.turn ≡ Turn.Finished self.now.setting.state) }
@@ -162,10 +165,11 @@ impl<'a> Settings<'a> {
         requires kept { IsWellKept scene }
         ensures picture { OnOk result
             (HasPicture self.now.globals self.now.setting.state reductions
-            (moment_of scene store.old) picture.new) }
+            (moment_of scene (contents_in store.old)) picture.new) }
         ensures stand { IfOk result (λ made.
-            (next : Moment) × NextOf (moment_of scene store.old) next
-            × (stands_at made.stand store.new ≡ open_at next) × (store.new ≡ next.store)) }
+            (next : Moment) × NextOf (moment_of scene (contents_in store.old)) next
+            × (stands_at made.stand (contents_in store.new) ≡ open_at next)
+            × (contents_in store.new ≡ next.store)) }
         ensures kept { IfOk result (λ made. StandIsKept made.stand) }
         ensures turn { IfOk result (λ made. made.turn ≡ Turn.Went) }
         ensures err { OnErr result (picture.new ≡ picture.old) }
@@ -191,12 +195,14 @@ impl<'a> Settings<'a> {
     ) -> Result<Made, NoMemory>
         requires kept { IsWellKept scene }
         requires sound { (kinds : List Bool)
-            × IsSound (setting_of self.now.setting) kinds (moment_of scene store.old) }
-        requires rests { AtRest (setting_of self.now.setting) (moment_of scene store.old) }
+            × IsSound (setting_of self.now.setting) kinds
+            (moment_of scene (contents_in store.old)) }
+        requires rests { AtRest (setting_of self.now.setting)
+            (moment_of scene (contents_in store.old)) }
         ensures made { IfOk result (λ made.
             RestTurns (setting_of self.now.setting) self.now.globals reductions
-            (moment_of scene store.old) picture.old picture.new (stands_at made.stand store.new)
-            store.new made.turn) }
+            (moment_of scene (contents_in store.old)) picture.old picture.new
+            (stands_at made.stand (contents_in store.new)) (contents_in store.new) made.turn) }
         ensures kept { IfOk result (λ made. StandIsKept made.stand) }
         ensures named { IfOk result (MadeIsOf store.new.variables) }
         ensures steps { IfOk result (λ made.
@@ -235,22 +241,24 @@ impl<'a> Settings<'a> {
         requires kept { IsWellKept scene }
         requires sound { (plan : Plan) × IsSettingsOf plan self.now
             × IsSound (setting_of self.now.setting) (kinds_of plan.program.globals)
-            (moment_of scene store.old) }
+            (moment_of scene (contents_in store.old)) }
         ensures made { IfOk result (λ made.
             (plan : Plan) → IsSettingsOf plan self.now
-            → StateBecomes plan self.now.setting.state (moment_of scene store.old) picture.old
-            picture.new (stands_at made.stand store.new) store.new made.turn) }
+            → StateBecomes plan self.now.setting.state (moment_of scene (contents_in store.old))
+            picture.old picture.new (stands_at made.stand (contents_in store.new))
+            (contents_in store.new) made.turn) }
         ensures in_order { IfOk result (λ made.
             IsNamedInOrder (setting_of self.now.setting) self.now.order self.now.limits.reductions
-            (moment_of scene store.old) made.turn) }
+            (moment_of scene (contents_in store.old)) made.turn) }
         ensures kept { IfOk result (λ made. StandIsKept made.stand) }
         ensures named { IfOk result (MadeIsOf store.new.variables) }
         ensures tried { IfOk result (λ made.
             (plan : Plan) → IsSettingsOf plan self.now
             → self.now.setting.state < self.now.limits.states
-            → IsTallyOf plan self.now.order self.now.setting.state (moment_of scene store.old)
-            picture.old picture.new (stands_at made.stand store.new) store.new made.turn
-            tally.new) }
+            → IsTallyOf plan self.now.order self.now.setting.state
+            (moment_of scene (contents_in store.old)) picture.old picture.new
+            (stands_at made.stand (contents_in store.new)) (contents_in store.new)
+            made.turn tally.new) }
         ensures steps { IfOk result (λ made.
             self.now.setting.state < self.now.limits.states
             → CountsStateTries steps.old steps.new tally.new made.turn) }
@@ -373,8 +381,9 @@ impl Run {
 
     /// What is known now: before a state, what it begins with; after the run's end, what was known when it came to it.
     pub fn store(&self) -> &Store
-        ensures store { result.now ≡ store_of self.now }
-        ensures before { (m : Moment) → standing_of self.now ≡ open_at m → result.now ≡ m.store }
+        ensures store { contents_in result.now ≡ store_of self.now }
+        ensures before { (m : Moment) → standing_of self.now ≡ open_at m
+            → contents_in result.now ≡ m.store }
     {
         &self.store
     }

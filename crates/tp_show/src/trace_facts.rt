@@ -2,6 +2,7 @@
 ghost use Rattle.std.specs.Prelude.{◌≡◌, ◌++◌, map, IfOk, IfErr, OnOk, Some};
 ghost use Rattle.tp_value.specs.Globals.{variable_of, with_name};
 ghost use Rattle.tp_store.specs.Known.{addition, adds, global_variable, IsVariableOf};
+ghost use Rattle.tp_store.specs.Stock.{contents_in};
 ghost use Rattle.tp_store.specs.Answers.{IsRefusal};
 ghost use Rattle.tp_store.specs.Changes.{IsSoundStore, AddsFacts, HaveSameShapes};
 ghost use Rattle.tp_show.specs.TraceFacts.{fact_named, part_facts, parts_facts, have_clash};
@@ -96,7 +97,7 @@ fn variable_for(globals: &mut Globals, store: &mut Store, name: &Text) -> Result
     ensures names { OnOk result (globals.new ≡ with_name globals.old name.now) }
     ensures variables { OnOk result (store.new.variables ≡ map global_variable globals.new) }
     ensures facts { OnOk result (HaveSameShapes store.new.facts store.old.facts) }
-    ensures sound { OnOk result (IsSoundStore store.new) }
+    ensures sound { OnOk result (IsSoundStore (contents_in store.new)) }
 {
     let var = globals.add(name)?;
     if var.number == store.count() {
@@ -112,8 +113,9 @@ fn add_part(store: &mut Store, var: VarId, part: &ReadPart) -> Result<Facts, Add
         addition store.old.facts (variable_facts var (trace_part_of part.now)) ≡ adds news) }
     ensures refused { IfErr result
         (IsRefusal (addition store.old.facts (variable_facts var (trace_part_of part.now)))) }
-    ensures added { IfOk result (λ news. AddsFacts store.old news store.new) }
-    ensures sound { OnOk result (IsSoundStore store.new) }
+    ensures added { IfOk result (λ news.
+        AddsFacts (contents_in store.old) news (contents_in store.new)) }
+    ensures sound { OnOk result (IsSoundStore (contents_in store.new)) }
 {
     match part {
         ReadPart::Given(path, value) => {

@@ -12,6 +12,7 @@ ghost use Rattle.tp_slots.specs.Plain.{bare};
 ghost use Rattle.tp_slots.specs.Read.{item_what, scene_of};
 ghost use Rattle.tp_slots.specs.Reductions.{becomes_leaves};
 ghost use Rattle.tp_slots.specs.declared.scene.What.TheVariants as what;
+ghost use Rattle.tp_store.specs.Stock.{contents_in};
 
 use crate::leaves::{make_room, numbers};
 use crate::scene::{Scene, Slot, What};
@@ -86,9 +87,10 @@ fn bind_local(
     ensures env { OnOk result (bindings_of env.new.value
         ≡ bound_last (bindings_of env.old.value) (length store.old.variables) lasting) }
     ensures local { OnOk result
-        (HasAdded store.old [] (Some (record { name = name.now; lasting = lasting })) store.new) }
+        (HasAdded (contents_in store.old) []
+        (Some (record { name = name.now; lasting = lasting })) (contents_in store.new)) }
     ensures env_err { OnErr result (env.new ≡ env.old) }
-    ensures store_err { OnErr result (store.new ≡ store.old) }
+    ensures store_err { OnErr result (contents_in store.new ≡ contents_in store.old) }
 {
     let number = store.count();
     let path = Path {
@@ -130,9 +132,10 @@ pub fn become_bound(
     ensures news { IfOk result (λ v.
         v.items ≡ new_items (scene_of scene.old) (scene_of scene.new)) }
     ensures local { OnOk result
-        (HasAdded store.old [] (Some (record { name = local.0; lasting = local.1 })) store.new) }
+        (HasAdded (contents_in store.old) []
+        (Some (record { name = local.0; lasting = local.1 })) (contents_in store.new)) }
     ensures scene_err { OnErr result (IsUnchanged scene.old scene.new) }
-    ensures store_err { OnErr result (store.new ≡ store.old) }
+    ensures store_err { OnErr result (contents_in store.new ≡ contents_in store.old) }
 {
     let (name, lasting, body) = local;
     let what = body.what;

@@ -4,6 +4,7 @@ ghost use Rattle.tp_value.specs.declared.value.Shape.TheVariants.{Items};
 ghost use Rattle.tp_store.specs.Answers.{IsRefusal};
 ghost use Rattle.tp_store.specs.Facts.{fact};
 ghost use Rattle.tp_store.specs.Known.{IsVariableOf, addition, adds};
+ghost use Rattle.tp_store.specs.Stock.{contents_in};
 ghost use Rattle.tp_scene.specs.Pick.{HasAdded};
 ghost use Rattle.tp_slots.specs.Kept.{IsReducedTo, IsUnchanged, IsWellKept, Lives};
 ghost use Rattle.tp_slots.specs.News.{bare_leaves, new_items};
@@ -39,11 +40,12 @@ pub fn become_sharing(
         made.0.items ≡ new_items (scene_of scene.old) (scene_of scene.new)) }
     ensures facts { IfOk result (λ made.
         addition store.old.facts (fact target.0 (Items target.1) ∷ []) ≡ adds made.1) }
-    ensures added { IfOk result (λ made. HasAdded store.old made.1 None store.new) }
+    ensures added { IfOk result (λ made.
+        HasAdded (contents_in store.old) made.1 None (contents_in store.new)) }
     ensures refused { IfErr result
         (IsRefusal (addition store.old.facts (fact target.0 (Items target.1) ∷ []))) }
     ensures scene_err { OnErr result (IsUnchanged scene.old scene.new) }
-    ensures store_err { OnErr result (store.new ≡ store.old) }
+    ensures store_err { OnErr result (contents_in store.new ≡ contents_in store.old) }
 {
     let (path, length) = target;
     let fresh = numbers(alloc, scene.slots.len() as u64, news.len())?;

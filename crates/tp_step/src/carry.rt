@@ -2,6 +2,7 @@
 ghost use Rattle.std.specs.Prelude.{◌≡◌, ℕ, [], IfOk, OnErr};
 ghost use Rattle.std.specs.Option.{option_map};
 ghost use Rattle.tp_store.specs.Known.{Addition, NoClash, IsVariableOf};
+ghost use Rattle.tp_store.specs.Stock.{contents_in};
 ghost use Rattle.tp_scene.specs.Pick.{Moment};
 ghost use Rattle.tp_scene.specs.Scene.{Entries};
 ghost use Rattle.tp_decide.specs.Decided.{adding_items, decided_outcome};
@@ -147,12 +148,13 @@ fn bind(
     requires due { IsDueUnder (env_of local.2) (item_what scene.old item) }
     ensures ok { IfOk result
         (Carries
-        (decided_outcome store.old.facts (numbers_in store.old scene.old)
+        (decided_outcome store.old.facts (numbers_in (contents_in store.old) scene.old)
         (Decision.Binds local.0 local.1 local.2))
-        room (moment_of scene.old store.old) item (moment_of scene.new store.new)) }
+        room (moment_of scene.old (contents_in store.old)) item
+        (moment_of scene.new (contents_in store.new))) }
     ensures kept { IsWellKept scene.new }
     ensures scene_err { OnErr result (IsUnchanged scene.old scene.new) }
-    ensures store_err { OnErr result (store.new ≡ store.old) }
+    ensures store_err { OnErr result (contents_in store.new ≡ contents_in store.old) }
 {
     if room == 0 {
         return Ok(Tried::Over(LimitKind::Reductions));
@@ -213,12 +215,13 @@ fn set(
     requires variable { IsVariableOf store.old.variables target.0.var }
     ensures ok { IfOk result
         (Carries
-        (decided_outcome store.old.facts (numbers_in store.old scene.old)
+        (decided_outcome store.old.facts (numbers_in (contents_in store.old) scene.old)
         (Decision.Sets target.0 target.1))
-        room (moment_of scene.old store.old) item (moment_of scene.new store.new)) }
+        room (moment_of scene.old (contents_in store.old)) item
+        (moment_of scene.new (contents_in store.new))) }
     ensures kept { IsWellKept scene.new }
     ensures scene_err { OnErr result (IsUnchanged scene.old scene.new) }
-    ensures store_err { OnErr result (store.new ≡ store.old) }
+    ensures store_err { OnErr result (contents_in store.new ≡ contents_in store.old) }
 {
     let (path, value) = target;
     if room == 0 {
@@ -245,12 +248,13 @@ fn set_length(
     requires variable { IsVariableOf store.old.variables target.0.var }
     ensures ok { IfOk result
         (Carries
-        (decided_outcome store.old.facts (numbers_in store.old scene.old)
+        (decided_outcome store.old.facts (numbers_in (contents_in store.old) scene.old)
         (Decision.Measures target.0 target.1))
-        room (moment_of scene.old store.old) item (moment_of scene.new store.new)) }
+        room (moment_of scene.old (contents_in store.old)) item
+        (moment_of scene.new (contents_in store.new))) }
     ensures kept { IsWellKept scene.new }
     ensures scene_err { OnErr result (IsUnchanged scene.old scene.new) }
-    ensures store_err { OnErr result (store.new ≡ store.old) }
+    ensures store_err { OnErr result (contents_in store.new ≡ contents_in store.old) }
 {
     let (path, length) = target;
     if room == 0 {
@@ -277,12 +281,13 @@ fn share_length(
     requires variable { IsVariableOf store.old.variables shared.0.var }
     ensures ok { IfOk result
         (Carries
-        (decided_outcome store.old.facts (numbers_in store.old scene.old)
+        (decided_outcome store.old.facts (numbers_in (contents_in store.old) scene.old)
         (Decision.Shares shared.0 shared.1 shared.2))
-        room (moment_of scene.old store.old) item (moment_of scene.new store.new)) }
+        room (moment_of scene.old (contents_in store.old)) item
+        (moment_of scene.new (contents_in store.new))) }
     ensures kept { IsWellKept scene.new }
     ensures scene_err { OnErr result (IsUnchanged scene.old scene.new) }
-    ensures store_err { OnErr result (store.new ≡ store.old) }
+    ensures store_err { OnErr result (contents_in store.new ≡ contents_in store.old) }
 {
     let (path, length, news) = shared;
     if room == 0 {
@@ -314,11 +319,13 @@ pub fn carry_decision(
     requires binds { BindsThere (item_what scene.old item) decision }
     requires apart { NoClash store.old.facts }
     ensures ok { IfOk result
-        (Carries (decided_outcome store.old.facts (numbers_in store.old scene.old) decision) room
-        (moment_of scene.old store.old) item (moment_of scene.new store.new)) }
+        (Carries
+        (decided_outcome store.old.facts (numbers_in (contents_in store.old) scene.old) decision)
+        room (moment_of scene.old (contents_in store.old)) item
+        (moment_of scene.new (contents_in store.new))) }
     ensures kept { IsWellKept scene.new }
     ensures scene_err { OnErr result (IsUnchanged scene.old scene.new) }
-    ensures store_err { OnErr result (store.new ≡ store.old) }
+    ensures store_err { OnErr result (contents_in store.new ≡ contents_in store.old) }
 {
     match decision {
         Decision::Becomes { news, mark } => become_news(alloc, scene, item, news, mark, room),

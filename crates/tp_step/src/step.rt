@@ -10,6 +10,7 @@ ghost use Rattle.tp_step.specs.Chosen.{IsChoice, IsDueIn, kind_in};
 ghost use Rattle.tp_step.specs.Meaning.{TryMeans};
 ghost use Rattle.tp_step.specs.OtherItems.{TryCommutes};
 ghost use Rattle.tp_step.specs.Room.{TryKeepsRoom};
+ghost use Rattle.tp_store.specs.Stock.{contents_in};
 
 use crate::answer::Tried;
 use crate::carry::{carry_decision, carry_holder};
@@ -66,10 +67,10 @@ fn choose_for_leaf(
     requires kept { IsWellKept scene.now }
     requires lives { Lives scene.now item }
     requires sound { (kinds : List Bool)
-        × IsSound (setting_of setting.now) kinds (moment_of scene.now store.now) }
+        × IsSound (setting_of setting.now) kinds (moment_of scene.now (contents_in store.now)) }
     requires leaf { kind_in (item_what scene.now item) ≡ None }
     ensures { IfOk result (λ d.
-        IsChoice (setting_of setting.now) store.now scene.now item (Choice.Leaf d)) }
+        IsChoice (setting_of setting.now) (contents_in store.now) scene.now item (Choice.Leaf d)) }
 {
     let slot = &scene.slots[item as usize];
     match due(&slot.what) {
@@ -88,8 +89,9 @@ fn choose(scene: &Scene, item: u64, store: &Store, setting: &Setting) -> Result<
     requires kept { IsWellKept scene.now }
     requires lives { Lives scene.now item }
     requires sound { (kinds : List Bool)
-        × IsSound (setting_of setting.now) kinds (moment_of scene.now store.now) }
-    ensures { IfOk result (IsChoice (setting_of setting.now) store.now scene.now item) }
+        × IsSound (setting_of setting.now) kinds (moment_of scene.now (contents_in store.now)) }
+    ensures { IfOk result
+        (IsChoice (setting_of setting.now) (contents_in store.now) scene.now item) }
 {
     let slot = &scene.slots[item as usize];
     match holder_kind(&slot.what) {
@@ -115,13 +117,13 @@ fn attempt(
     requires kept { IsWellKept scene.old }
     requires lives { Lives scene.old item }
     requires sound { (kinds : List Bool)
-        × IsSound (setting_of setting.now) kinds (moment_of scene.old store.old) }
+        × IsSound (setting_of setting.now) kinds (moment_of scene.old (contents_in store.old)) }
     ensures answer { IfOk result
-        (Tries (setting_of setting.now) room (moment_of scene.old store.old) item
-        (moment_of scene.new store.new)) }
+        (Tries (setting_of setting.now) room (moment_of scene.old (contents_in store.old)) item
+        (moment_of scene.new (contents_in store.new))) }
     ensures kept { IsWellKept scene.new }
     ensures scene_err { OnErr result (IsUnchanged scene.old scene.new) }
-    ensures store_err { OnErr result (store.new ≡ store.old) }
+    ensures store_err { OnErr result (contents_in store.new ≡ contents_in store.old) }
 {
     remember(scene, item);
     match choose(scene, item, store, setting)? {
@@ -145,25 +147,26 @@ pub fn try_item<L: Ledger>(
     requires kept { IsWellKept scene.old }
     requires lives { Lives scene.old item }
     requires sound { (kinds : List Bool)
-        × IsSound (setting_of setting.now) kinds (moment_of scene.old store.old) }
+        × IsSound (setting_of setting.now) kinds (moment_of scene.old (contents_in store.old)) }
     ensures answer { IfOk result
-        (Tries (setting_of setting.now) room (moment_of scene.old store.old) item
-        (moment_of scene.new store.new)) }
+        (Tries (setting_of setting.now) room (moment_of scene.old (contents_in store.old)) item
+        (moment_of scene.new (contents_in store.new))) }
     ensures means { IfOk result
-        (TryMeans (setting_of setting.now) (moment_of scene.old store.old)
-        (moment_of scene.new store.new)) }
+        (TryMeans (setting_of setting.now) (moment_of scene.old (contents_in store.old))
+        (moment_of scene.new (contents_in store.new))) }
     ensures sound { IfOk result (λ tried.
         (kinds : List Bool)
-        → IsSound (setting_of setting.now) kinds (moment_of scene.old store.old)
-        → IsSound (setting_of setting.now) kinds (moment_of scene.new store.new)) }
+        → IsSound (setting_of setting.now) kinds (moment_of scene.old (contents_in store.old))
+        → IsSound (setting_of setting.now) kinds (moment_of scene.new (contents_in store.new))) }
     ensures commutes { IfOk result
-        (TryCommutes (setting_of setting.now) (moment_of scene.old store.old) item
-        (moment_of scene.new store.new)) }
+        (TryCommutes (setting_of setting.now) (moment_of scene.old (contents_in store.old)) item
+        (moment_of scene.new (contents_in store.new))) }
     ensures room { IfOk result
-        (TryKeepsRoom (setting_of setting.now) room (moment_of scene.old store.old) item) }
+        (TryKeepsRoom (setting_of setting.now) room (moment_of scene.old (contents_in store.old))
+        item) }
     ensures kept { IsWellKept scene.new }
     ensures scene_err { OnErr result (scene_of scene.new ≡ scene_of scene.old) }
-    ensures store_err { OnErr result (store.new ≡ store.old) }
+    ensures store_err { OnErr result (contents_in store.new ≡ contents_in store.old) }
     ensures steps { steps.new ≡ steps.old + 1 }
 {
     steps.tick();

@@ -1,10 +1,11 @@
 -- What comes of adding facts.
-use Rattle.std.proofs.Common.{◌≡◌, ◌⊎◌, inl, inr, Bool, true, false, not, ◌&&◌, ◌||◌, List, [], ◌∷◌, ◌++◌, Option, Some, None, refl, ap, ap₂, sym, ◌∙◌, subst}
+use Rattle.std.proofs.Common.{◌≡◌, ◌⊎◌, inl, inr, Bool, true, false, not, ◌&&◌, ◌||◌, List, [], ◌∷◌, ◌++◌, cond, Option, Some, None, refl, ap, ap₂, sym, ◌∙◌, subst}
 use Rattle.std.proofs.lemmas.Bool.{both_ways, or_parts}
 use Rattle.tp_value.specs.declared.value.Shape.{Shape}
 use Rattle.tp_value.specs.declared.path.Fact.{Fact}
 use Rattle.tp_store.specs.Facts.{same_path, same_shape, excludes, clash, kept_shape, fact}
 use Rattle.tp_store.specs.Known.{Addition, NoClash, is_none, first_clash, adds, refuses, refused_or, checked, new_facts, addition}
+use Rattle.tp_store.specs.FactMap.{IsNewFact}
 use Rattle.tp_store.proofs.Paths.{same_path-decides, same_shape-decides, same_path-sym, clash-sym}
 use Rattle.tp_store.proofs.Members.{In, kept_in, none_kept, in_filter, filter_in, NoClash-append, NoClash-filter, Apart}
 use Rattle.tp_store.proofs.First.{FirstOf, first_is}
@@ -102,6 +103,10 @@ checked_by_none (f ∷ fs) o = checked_by_none fs o
 all_new : (fs : List Fact) → new_facts [] fs ≡ fs
 all_new [] = refl
 all_new (f ∷ fs) = ap (λ gs. f ∷ gs) (all_new fs)
+
+-- a fact that is new is added
+pub new_added : (kept : List Fact) (f : Fact) → IsNewFact kept f → addition kept (f ∷ []) ≡ adds (f ∷ [])
+new_added kept f n = ap (λ o. refused_or o f (adds (new_facts kept (f ∷ [])))) n.apart ∙ ap (λ s. adds (cond (is_none s) (f ∷ []) [])) n.none
 
 pub adds_to_none : (fs : List Fact) → addition [] fs ≡ adds fs
 adds_to_none fs = checked_by_none fs (adds (new_facts [] fs)) ∙ ap adds (all_new fs)

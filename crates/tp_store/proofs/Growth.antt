@@ -3,7 +3,7 @@ use Rattle.std.proofs.Common.{◌≡◌, inl, inr, ℕ, zero, suc, ◌-◌, ◌^
 use Rattle.std.specs.List.{IsDistinct}
 use Rattle.std.proofs.lemmas.Option.{slice_get_within}
 use Rattle.std.specs.Map.{keys_of, values_of}
-use Rattle.indexmap.specs.IndexMap.{insert_entry, set_value_at}
+use Rattle.indexmap.specs.IndexMap.{insert_entry, set_value_at, spare}
 use Rattle.tp_value.specs.declared.path.Fact.{Fact}
 use Rattle.tp_store.specs.declared.nodes.Edge.{Edge}
 use Rattle.tp_store.specs.declared.nodes.Node.{Node}
@@ -34,12 +34,13 @@ pub length_nodes : (t : Nodes) → length (nodes_in t) ≡ suc (length (edges_in
 length_nodes t = ap suc (length_values t.below.entries)
 
 pub none_more : (t : Nodes) → HasMoreNodes t t
-none_more t = record { more = []; edges = sym (append-nil (edges_in t)); facts = λ b. refl }
+none_more t = record { more = []; edges = sym (append-nil (edges_in t)); placed = refl; facts = λ b. refl }
 
 pub more_then : (a b c : Nodes) → HasMoreNodes a b → HasMoreNodes b c → HasMoreNodes a c
 more_then a b c m n = record {
   more = m.more ++ n.more;
   edges = n.edges ∙ ap (λ es. es ++ n.more) m.edges ∙ append_assoc (edges_in a) m.more n.more;
+  placed = n.placed ∙ m.placed;
   facts = λ b. n.facts b ∙ m.facts b;
 }
 
@@ -66,10 +67,11 @@ module _ (mid new : Nodes) (entries : new.below.entries ≡ mid.below.entries)
         beyond = subst B (sym moved_edges) (subst N (sym moved_nodes) t.beyond);
       }
 
-  pub moved_more : HasMoreNodes mid new
-  moved_more = record {
+  pub moved_more : length new.places.items ≡ length mid.places.items → HasMoreNodes mid new
+  moved_more long = record {
     more = [];
     edges = moved_edges ∙ sym (append-nil (edges_in mid));
+    placed = long;
     facts = λ b. ap₂ (λ es ns. facts_along b (routes es) ns) moved_edges moved_nodes;
   }
 
@@ -92,7 +94,7 @@ pub record HasGrown (mid new : Nodes) (node index : ℕ) : Type 0 where
 -- a child that wasn't there
 module _ (mid new : Nodes) (node index : ℕ) (t : IsTree mid) (low : node < length (nodes_in mid)) (none : child (edges_in mid) node index ≡ None)
     (narrow : 0 < node → index < 2 ^ 32) (bound : 0 < node → index < beyond_among (nodes_in mid) node)
-    (placed : StandAtNumbers (edges_in mid ++ edge node index ∷ []) new.places.items)
+    (placed : StandAtNumbers (edges_in mid ++ edge node index ∷ []) new.places.items) (as_long : length new.places.items ≡ length mid.places.items)
     (entries : new.below.entries ≡ insert_entry same_edge mid.below.entries (edge node index) bare_node) where
   last : new.below.entries ≡ mid.below.entries ++ (edge node index, bare_node) ∷ []
   last = entry_last mid.below.entries new.below.entries node index bare_node none entries
@@ -125,6 +127,7 @@ module _ (mid new : Nodes) (node index : ℕ) (t : IsTree mid) (low : node < len
   new_more = record {
     more = edge node index ∷ [];
     edges = new_edges;
+    placed = as_long;
     facts = λ b. ap₂ (λ es ns. facts_along b (routes es) ns) new_edges new_nodes ∙ facts_grown b (edges_in mid) (nodes_in mid) (edge node index) bare_node (length_nodes mid) refl;
   }
 
@@ -179,13 +182,15 @@ module _ (old new : Nodes) (node : ℕ) (v : Node) (t : IsTree old) (edges : edg
       }
 
 pub set_raised : (old new : Nodes) (node index : ℕ) (parent v : Node) → IsTree old → slice_get (nodes_in old) node ≡ Some parent → v.shape ≡ parent.shape
-    → edges_in new ≡ edges_in old → nodes_in new ≡ with_node (nodes_in old) node v → new.places.items ≡ old.places.items → parent.beyond ≤ v.beyond → index < v.beyond → IsRaised old node index new
-set_raised old new node index parent v t there shape edges nodes places rises l =
+    → edges_in new ≡ edges_in old → nodes_in new ≡ with_node (nodes_in old) node v → new.places.items ≡ old.places.items → spare new.below ≡ spare old.below → parent.beyond ≤ v.beyond → index < v.beyond → IsRaised old node index new
+set_raised old new node index parent v t there shape edges nodes places room rises l =
     let low = slice_get_within (nodes_in old) node parent there in
     let before = beyond_of_node (nodes_in old) node parent there in
     record {
       tree = set_tree old new node v t edges nodes places (omega (arith, before, rises));
       edges = edges;
+      placed = ap length places;
+      room = room;
       long = ap length nodes ∙ length_with (nodes_in old) node v;
       facts = λ b. ap₂ (λ es ns. facts_along b (routes es) ns) edges nodes ∙ facts_same b (routes (edges_in old)) (nodes_in old) node v (shape ∙ sym (shape_of_node (nodes_in old) node parent there));
       bound =
@@ -194,7 +199,7 @@ set_raised old new node index parent v t there shape edges nodes places rises l 
     }
 
 pub raised_more : (old mid : Nodes) (node index : ℕ) → IsRaised old node index mid → HasMoreNodes old mid
-raised_more old mid node index r = record { more = []; edges = r.edges ∙ sym (append-nil (edges_in old)); facts = r.facts }
+raised_more old mid node index r = record { more = []; edges = r.edges ∙ sym (append-nil (edges_in old)); placed = r.placed; facts = r.facts }
 
 pub keeps_from : (old mid new : Nodes) (fs : List Fact) → HasMoreNodes old mid → KeepsAll mid fs new → KeepsAll old fs new
 keeps_from old mid new fs more keeps b a n =

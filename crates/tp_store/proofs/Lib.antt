@@ -12,6 +12,7 @@ pub mod FactMapLemmas
 pub mod Parts
 pub mod Kept
 pub mod Clashes
+pub mod Cuts
 pub mod Growth
 pub mod Plain
 pub mod EntryLemmas

@@ -1,23 +1,29 @@
 -- The facts of a store: those of its state variables and those of its static ones.
-use Rattle.std.proofs.Common.{◌≡◌, ◌⊎◌, inl, inr, ℕ, zero, suc, Bool, true, false, cond, nat_lt, List, [], ◌∷◌, ◌++◌, map, Option, Some, None, slice_get, refl, ap, ap₂, sym, ◌∙◌, subst}
+use Rattle.std.proofs.Common.{◌≡◌, ◌⊎◌, ◌+◌, ◌≤◌, ◌<◌, inl, inr, ℕ, zero, suc, length, arith, Bool, true, false, cond, nat_lt, List, [], ◌∷◌, ◌++◌, map, Option, Some, None, slice_get, get_or, refl, ap, ap₂, sym, ◌∙◌, subst}
 use Rattle.std.proofs.lemmas.Bool.{false_from_ne_true}
-use Rattle.std.proofs.lemmas.List.{map-append}
+use Rattle.std.proofs.lemmas.List.{map-append, length-append, length-map}
 use Rattle.std.proofs.lemmas.List.Elements.{filter-append}
+use Rattle.std.proofs.lemmas.Option.{slice_get_within}
 use Rattle.tp_value.specs.declared.value.Shape.{Shape}
 use Rattle.tp_value.specs.declared.path.VarId.{VarId}
 use Rattle.tp_value.specs.declared.path.Path.{Path}
 use Rattle.tp_value.specs.declared.path.Fact.{Fact}
 use Rattle.tp_store.specs.Facts.{same_path, clash, kept_shape, is_excluded, fact}
-use Rattle.tp_store.specs.Known.{Contents, NoClash, Variable, IsVariableOf, AreOfVariables, lasting_facts, facts_below, full, addition, adds, new_store, global_variable}
-use Rattle.tp_store.specs.Entries.{variable_in, variables_in, contents_of, part_by_kind, IsPart, AreParts}
+use Rattle.tp_store.specs.Known.{Contents, NoClash, Variable, IsVariableOf, AreOfVariables, lasting_facts, facts_below, full, addition, adds, first_clash, new_store, global_variable}
+use Rattle.tp_store.specs.Entries.{variable_in, variables_in, contents_of, part_by_kind, IsPart, AreParts, TakesFact}
 use Rattle.tp_store.specs.FactMap.{AreOf, AreOfKind, FactsOfKind, facts_asked}
+use Rattle.tp_store.specs.Nodes.{ArePlaced}
 use Rattle.tp_store.specs.declared.copies.Which.TheVariants.{Below}
 use Rattle.tp_store.specs.declared.entry.Entry.{Entry}
+use Rattle.tp_store.specs.declared.note.Noted.{Noted}
+use Rattle.tp_store.specs.declared.note.Noted.TheVariants.{New, Kept}
+use Rattle.tp_store.specs.declared.note.Noted.TheVariants as noted
+use Rattle.tp_store.specs.Answers.{IsNoted, IfNew, UnlessNew}
 use Rattle.tp_store.specs.Changes.{IsSoundStore, HaveSameShapes, AddsFacts, HasAppended}
 use Rattle.tp_store.proofs.Paths.{same_path-decides}
 use Rattle.tp_store.proofs.Members.{In, in_left, in_right, in_append, kept_in, in_kept, kept_none, NoClash-append, NoClash-filter, Apart}
-use Rattle.tp_store.proofs.Adding.{adds_all, news_given}
-use Rattle.tp_store.proofs.Same.{AgreeAt, same_kept, same_excluded, same_full, same_addition, clash-variable}
+use Rattle.tp_store.proofs.Adding.{adds_all, new_added, news_given}
+use Rattle.tp_store.proofs.Same.{AgreeAt, same_kept, same_excluded, same_full, same_first, same_addition, clash-variable}
 
 pub of_in : (x : VarId) (fs : List Fact) → AreOf x fs → (f : Fact) → In f fs → f.path.var ≡ x
 of_in x [] h f i = absurd i
@@ -123,6 +129,18 @@ module _ (es : List Entry) (m n : FactsOfKind) (v : Contents) (e : contents_of e
       ∙ sym (same_full (m.facts ++ n.facts) (part_by_kind p.var.lasting m n).facts p (part_apart m n h.state_facts h.static_facts p.var.lasting) (part_agrees m n h.state_facts h.static_facts p.var.lasting p.var refl))
       ∙ ap (λ (s : Contents). full s.facts p) e
 
+  pub first_view : (f : Fact) (q : FactsOfKind) → q ≡ part_by_kind f.path.var.lasting m n → first_clash q.facts f ≡ first_clash v.facts f
+  first_view f q part =
+      ap (λ (r : FactsOfKind). first_clash r.facts f) part
+      ∙ sym (same_first (m.facts ++ n.facts) (part_by_kind f.path.var.lasting m n).facts f (parts_apart m n h.state_facts h.static_facts) (part_agrees m n h.state_facts h.static_facts f.path.var.lasting f.path.var refl))
+      ∙ ap (λ (s : Contents). first_clash s.facts f) e
+
+  -- and what becomes of a fact
+  pub noted_view : (f : Fact) (q : FactsOfKind) (r : Noted) → q ≡ part_by_kind f.path.var.lasting m n → IsNoted q.facts f r → IsNoted v.facts f r
+  noted_view f q New part is = record { none = sym (kept_view f.path q part) ∙ is.none; apart = sym (first_view f q part) ∙ is.apart }
+  noted_view f q Kept part is = sym (kept_view f.path q part) ∙ is
+  noted_view f q noted.Clash part is = (is.0, sym (first_view f q part) ∙ is.1)
+
   pub addition_view : (b : Bool) (x : VarId) (fs : List Fact) → x.lasting ≡ b → AreOf x fs → addition (part_by_kind b m n).facts fs ≡ addition v.facts fs
   addition_view b x fs k a =
       let A : VarId → Type 0 = λ y. AgreeAt y (m.facts ++ n.facts) (part_by_kind b m n).facts in
@@ -142,6 +160,23 @@ module _ (es : List Entry) (m n : FactsOfKind) (v : Contents) (e : contents_of e
         shapes = λ p. ap (λ xs. kept_shape xs p) same;
       }
 
+-- the place of a variable
+pub of_placed : (x : VarId) (n : ℕ) (fs : List Fact) → AreOf x fs → x.number < n → ArePlaced n fs
+of_placed x n [] a h = tt
+of_placed x n (f ∷ fs) a h = (let P : VarId → Type 0 = λ y. y.number < n in subst P (sym a.0) h, of_placed x n fs a.1 h)
+
+pub placed_at : (n : ℕ) (fs : List Fact) (i : ℕ) (f : Fact) → ArePlaced n fs → i < length fs → f ≡ get_or fs i f → f.path.var.number < n
+placed_at n [] i f h low e = absurd (omega (arith, low))
+placed_at n (g ∷ fs) zero f h low e = let P : Fact → Type 0 = λ y. y.path.var.number < n in subst P (sym e) h.0
+placed_at n (g ∷ fs) (suc i) f h low e = placed_at n fs i f h.1 (omega (arith, low)) e
+
+pub variable_placed : (es : List Entry) (x : VarId) (n : ℕ) → IsVariableOf (variables_in es) x → length es ≤ n → x.number < n
+variable_placed es x n k long =
+    let within = slice_get_within (map (λ (v : Variable). v.lasting) (variables_in es)) x.number x.lasting k in
+    let a : length (map (λ (v : Variable). v.lasting) (variables_in es)) ≡ length (variables_in es) = length-map (variables_in es) (λ (v : Variable). v.lasting) in
+    let b : length (variables_in es) ≡ length es = length-map es variable_in in
+    omega (arith, within, a, b, long)
+
 -- one more variable
 slice_more : (bs : List Bool) (c : Bool) (k : ℕ) (b : Bool) → slice_get bs k ≡ Some b → slice_get (bs ++ c ∷ []) k ≡ Some b
 slice_more [] c k b q = absurd (cc)
@@ -158,13 +193,16 @@ parts_moved es fs m n q h = let P : List Entry → Type 0 = λ xs. AreParts xs m
 pub variables_more : (es fs : List Entry) (e : Entry) → fs ≡ es ++ e ∷ [] → variables_in fs ≡ variables_in es ++ variable_in e ∷ []
 variables_more es fs e q = ap variables_in q ∙ map-append variable_in es (e ∷ [])
 
-pub fresh_parts : (es fs : List Entry) (e : Entry) (m n : FactsOfKind) → fs ≡ es ++ e ∷ [] → AreParts es m n → AreParts fs m n
-fresh_parts es fs e m n q h =
+pub fresh_parts : (es fs : List Entry) (e : Entry) (m n : FactsOfKind) → fs ≡ es ++ e ∷ [] → length es + 1 ≤ m.placed → length es + 1 ≤ n.placed → AreParts es m n → AreParts fs m n
+fresh_parts es fs e m n q a b h =
     let all = m.facts ++ n.facts in
     let V : List Variable → Type 0 = λ xs. AreOfVariables xs all in
+    let long : length fs ≡ length es + 1 = ap length q ∙ length-append es (e ∷ []) in
     record {
       state_facts = h.state_facts;
       static_facts = h.static_facts;
+      state_placed = omega (arith, long, a);
+      static_placed = omega (arith, long, b);
       of_variables = subst V (sym (variables_more es fs e q))
           (variables_from (variables_in es ++ variable_in e ∷ []) all (λ f i. variable_more (variables_in es) (variable_in e) f.path.var (variables_each (variables_in es) all h.of_variables f i)));
     }
@@ -178,14 +216,16 @@ filter_none : (fs : List Fact) → AreOfKind false fs → lasting_facts fs ≡ [
 filter_none [] h = refl
 filter_none (f ∷ fs) h = ap (λ b. cond b (f ∷ lasting_facts fs) (lasting_facts fs)) h.0 ∙ filter_none fs h.1
 
-pub next_parts : (es : List Entry) (m o n : FactsOfKind) → o.lasting ≡ m.lasting → o.facts ≡ [] → AreParts es m n → AreParts es o n
-next_parts es m o n k none h =
+pub next_parts : (es : List Entry) (m o n : FactsOfKind) → o.lasting ≡ m.lasting → o.facts ≡ [] → o.placed ≡ m.placed → AreParts es m n → AreParts es o n
+next_parts es m o n k none p h =
     let K : List Fact → Type 0 = λ fs. AreOfKind false fs in
     let N : List Fact → Type 0 = λ fs. NoClash fs in
     let V : List Fact → Type 0 = λ fs. AreOfVariables (variables_in es) (fs ++ n.facts) in
     record {
       state_facts = record { kind = k ∙ h.state_facts.kind; of_kind = subst K (sym none) tt; apart = subst N (sym none) tt };
       static_facts = h.static_facts;
+      state_placed = omega (arith, p, h.state_placed);
+      static_placed = h.static_placed;
       of_variables = subst V (sym none) (variables_from (variables_in es) n.facts (λ f i. variables_each (variables_in es) (m.facts ++ n.facts) h.of_variables f (in_right f m.facts n.facts i)));
     }
 
@@ -195,22 +235,54 @@ next_facts es m o n v e none h =
     ∙ sym (filter-append (λ (f : Fact). f.path.var.lasting) m.facts n.facts ∙ ap₂ (λ (xs ys : List Fact). xs ++ ys) (filter_none m.facts h.state_facts.of_kind) (filter_all n.facts h.static_facts.of_kind))
     ∙ ap (λ (s : Contents). lasting_facts s.facts) e
 
--- a new store
-pub new_parts : (es : List Entry) (m n : FactsOfKind) → m ≡ record { lasting = false; facts = [] } → n ≡ record { lasting = true; facts = [] } → AreParts es m n
-new_parts es m n p q =
-    let none : FactsOfKind → FactsOfKind → Type 0 = λ a b. AreParts es a b in
-    let bare : Bool → FactsOfKind = λ b. record { lasting = b; facts = [] } in
-    subst (λ a. none a n) (sym p) (subst (λ b. none (bare false) b) (sym q) (record {
-      state_facts = record { kind = refl; of_kind = tt; apart = tt };
-      static_facts = record { kind = refl; of_kind = tt; apart = tt };
-      of_variables = tt;
-    }))
+-- the facts stay, and the room may not
+same_part : (b : Bool) (m o : FactsOfKind) → o.lasting ≡ m.lasting → o.facts ≡ m.facts → IsPart b m → IsPart b o
+same_part b m o k same p =
+    let K : List Fact → Type 0 = λ fs. AreOfKind b fs in
+    let N : List Fact → Type 0 = λ fs. NoClash fs in
+    record { kind = k ∙ p.kind; of_kind = subst K (sym same) p.of_kind; apart = subst N (sym same) p.apart }
 
-pub new_contents : (es : List Entry) (m n : FactsOfKind) (names : List (List ℕ)) → m ≡ record { lasting = false; facts = [] } → n ≡ record { lasting = true; facts = [] }
+pub state_same : (es : List Entry) (m n o : FactsOfKind) → o.lasting ≡ m.lasting → o.facts ≡ m.facts → m.placed ≤ o.placed → AreParts es m n → AreParts es o n
+state_same es m n o k same p h =
+    let V : List Fact → Type 0 = λ fs. AreOfVariables (variables_in es) (fs ++ n.facts) in
+    record { state_facts = same_part false m o k same h.state_facts; static_facts = h.static_facts; state_placed = omega (arith, p, h.state_placed); static_placed = h.static_placed; of_variables = subst V (sym same) h.of_variables }
+
+pub static_same : (es : List Entry) (m n o : FactsOfKind) → o.lasting ≡ n.lasting → o.facts ≡ n.facts → n.placed ≤ o.placed → AreParts es m n → AreParts es m o
+static_same es m n o k same p h =
+    let V : List Fact → Type 0 = λ fs. AreOfVariables (variables_in es) (m.facts ++ fs) in
+    record { state_facts = h.state_facts; static_facts = same_part true n o k same h.static_facts; state_placed = h.state_placed; static_placed = omega (arith, p, h.static_placed); of_variables = subst V (sym same) h.of_variables }
+
+pub same_contents : (es fs : List Entry) (m n o p : FactsOfKind) → fs ≡ es → o.facts ≡ m.facts → p.facts ≡ n.facts → contents_of fs o p ≡ contents_of es m n
+same_contents es fs m n o p q a b =
+    let make : List Fact → List Variable → Contents = λ gs vs. record { facts = gs; variables = vs } in
+    ap₂ make (ap₂ (λ (x y : List Fact). x ++ y) a b) (ap variables_in q)
+
+pub sound_same : (es fs : List Entry) (m n o p : FactsOfKind) → fs ≡ es → o.facts ≡ m.facts → p.facts ≡ n.facts → AreParts es m n → IsSoundStore (contents_of fs o p)
+sound_same es fs m n o p q a b h = let P : Contents → Type 0 = λ s. IsSoundStore s in subst P (sym (same_contents es fs m n o p q a b)) (sound es m n h)
+
+-- a new store
+bare_part : (b : Bool) (m : FactsOfKind) → m.lasting ≡ b → m.facts ≡ [] → IsPart b m
+bare_part b m k p =
+    let K : List Fact → Type 0 = λ fs. AreOfKind b fs in
+    let N : List Fact → Type 0 = λ fs. NoClash fs in
+    record { kind = k; of_kind = subst K (sym p) tt; apart = subst N (sym p) tt }
+
+pub new_parts : (es : List Entry) (m n : FactsOfKind) → m.lasting ≡ false → m.facts ≡ [] → n.lasting ≡ true → n.facts ≡ [] → length es ≤ m.placed → length es ≤ n.placed → AreParts es m n
+new_parts es m n k p l q a b =
+    let V : List Fact → List Fact → Type 0 = λ fs gs. AreOfVariables (variables_in es) (fs ++ gs) in
+    record {
+      state_facts = bare_part false m k p;
+      static_facts = bare_part true n l q;
+      state_placed = a;
+      static_placed = b;
+      of_variables = subst (λ fs. V fs n.facts) (sym p) (subst (λ gs. V [] gs) (sym q) tt);
+    }
+
+pub new_contents : (es : List Entry) (m n : FactsOfKind) (names : List (List ℕ)) → m.facts ≡ [] → n.facts ≡ []
     → variables_in es ≡ map global_variable names → contents_of es m n ≡ new_store names
 new_contents es m n names p q v =
     let make : List Fact → List Variable → Contents = λ fs vs. record { facts = fs; variables = vs } in
-    ap₂ make (ap₂ (λ (a b : FactsOfKind). a.facts ++ b.facts) p q) v
+    ap₂ make (ap₂ (λ (a b : List Fact). a ++ b) p q) v
 
 -- facts are added to a part
 or_else : Option Shape → Option Shape → Option Shape
@@ -274,7 +346,7 @@ module _ (es : List Entry) (m n : FactsOfKind) (v : Contents) (e : contents_of e
   old_variables : (f : Fact) → In f (m.facts ++ n.facts) → IsVariableOf (variables_in es) f.path.var
   old_variables = variables_each (variables_in es) (m.facts ++ n.facts) h.of_variables
 
-  module _ (o : FactsOfKind) (added : addition m.facts facts ≡ adds news) (kind : o.lasting ≡ m.lasting) (of_kind : AreOfKind o.lasting o.facts) (apart : NoClash o.facts) (s : HaveSameShapes o.facts (m.facts ++ news)) (lasting : x.lasting ≡ false) where
+  module _ (o : FactsOfKind) (added : addition m.facts facts ≡ adds news) (kind : o.lasting ≡ m.lasting) (of_kind : AreOfKind o.lasting o.facts) (apart : NoClash o.facts) (s : HaveSameShapes o.facts (m.facts ++ news)) (placed : o.placed ≡ m.placed) (lasting : x.lasting ≡ false) where
     state_news : AreOf x news
     state_news = news_of x m.facts facts news added filed
 
@@ -282,6 +354,8 @@ module _ (es : List Entry) (m n : FactsOfKind) (v : Contents) (e : contents_of e
     state_grown = record {
       state_facts = part_grown false m o h.state_facts kind of_kind apart;
       static_facts = h.static_facts;
+      state_placed = omega (arith, placed, h.state_placed);
+      static_placed = h.static_placed;
       of_variables = variables_from (variables_in es) (o.facts ++ n.facts) (λ f i.
           elim (in_append f o.facts n.facts i) [
             | inl j ↦ kept_variables (variables_in es) x m.facts news o.facts is_variable state_news apart s (λ g l. old_variables g (in_left g m.facts n.facts l)) f j
@@ -299,7 +373,7 @@ module _ (es : List Entry) (m n : FactsOfKind) (v : Contents) (e : contents_of e
       variables = ap (λ (c : Contents). c.variables) e;
     }
 
-  module _ (o : FactsOfKind) (added : addition n.facts facts ≡ adds news) (kind : o.lasting ≡ n.lasting) (of_kind : AreOfKind o.lasting o.facts) (apart : NoClash o.facts) (s : HaveSameShapes o.facts (n.facts ++ news)) where
+  module _ (o : FactsOfKind) (added : addition n.facts facts ≡ adds news) (kind : o.lasting ≡ n.lasting) (of_kind : AreOfKind o.lasting o.facts) (apart : NoClash o.facts) (s : HaveSameShapes o.facts (n.facts ++ news)) (placed : o.placed ≡ n.placed) where
     static_news : AreOf x news
     static_news = news_of x n.facts facts news added filed
 
@@ -307,6 +381,8 @@ module _ (es : List Entry) (m n : FactsOfKind) (v : Contents) (e : contents_of e
     static_grown = record {
       state_facts = h.state_facts;
       static_facts = part_grown true n o h.static_facts kind of_kind apart;
+      state_placed = h.state_placed;
+      static_placed = omega (arith, placed, h.static_placed);
       of_variables = variables_from (variables_in es) (m.facts ++ o.facts) (λ f i.
           elim (in_append f m.facts o.facts i) [
             | inl j ↦ old_variables f (in_left f m.facts n.facts j)
@@ -323,3 +399,29 @@ module _ (es : List Entry) (m n : FactsOfKind) (v : Contents) (e : contents_of e
           ∙ ap (λ (c : Contents). kept_shape (c.facts ++ news) p) e;
       variables = ap (λ (c : Contents). c.variables) e;
     }
+
+-- a fact is noted by one of both parts
+module _ (es : List Entry) (m n : FactsOfKind) (v : Contents) (e : contents_of es m n ≡ v) (h : AreParts es m n) (f : Fact) (k : IsVariableOf v.variables f.path.var) (o : FactsOfKind) where
+  pub state_noted : (r : Noted) → f.path.var.lasting ≡ false → IsNoted m.facts f r → IfNew r (TakesFact m f o) → UnlessNew r (o ≡ m) → AreParts es o n
+  state_noted New s is new same =
+      state_grown es m n v e h f.path.var (f ∷ []) (f ∷ []) k (refl, tt) o (new_added m.facts f is) new.kind new.of_kind new.apart new.shapes new.placed s
+  state_noted Kept s is new same = let P : FactsOfKind → Type 0 = λ q. AreParts es q n in subst P (sym same) h
+  state_noted noted.Clash s is new same = let P : FactsOfKind → Type 0 = λ q. AreParts es q n in subst P (sym same) h
+
+  pub state_noted_adds : (r : Noted) → f.path.var.lasting ≡ false → IsNoted m.facts f r → IfNew r (TakesFact m f o) → IfNew r (AddsFacts v (f ∷ []) (contents_of es o n))
+  state_noted_adds New s is new =
+      state_adds es m n v e h f.path.var (f ∷ []) (f ∷ []) k (refl, tt) o (new_added m.facts f is) new.kind new.of_kind new.apart new.shapes new.placed s
+  state_noted_adds Kept s is new = tt
+  state_noted_adds noted.Clash s is new = tt
+
+  pub static_noted : (r : Noted) → IsNoted n.facts f r → IfNew r (TakesFact n f o) → UnlessNew r (o ≡ n) → AreParts es m o
+  static_noted New is new same =
+      static_grown es m n v e h f.path.var (f ∷ []) (f ∷ []) k (refl, tt) o (new_added n.facts f is) new.kind new.of_kind new.apart new.shapes new.placed
+  static_noted Kept is new same = let P : FactsOfKind → Type 0 = λ q. AreParts es m q in subst P (sym same) h
+  static_noted noted.Clash is new same = let P : FactsOfKind → Type 0 = λ q. AreParts es m q in subst P (sym same) h
+
+  pub static_noted_adds : (r : Noted) → IsNoted n.facts f r → IfNew r (TakesFact n f o) → IfNew r (AddsFacts v (f ∷ []) (contents_of es m o))
+  static_noted_adds New is new =
+      static_adds es m n v e h f.path.var (f ∷ []) (f ∷ []) k (refl, tt) o (new_added n.facts f is) new.kind new.of_kind new.apart new.shapes new.placed
+  static_noted_adds Kept is new = tt
+  static_noted_adds noted.Clash is new = tt

@@ -48,7 +48,7 @@ module _ (fs : List Fact) (p : Path) (c : ℕ) (plain : (k : ℕ) → k < c → 
   pub open_first : (d n : ℕ) → kept_shape fs p ≡ Some (Items n) → c < n → whole (suc (suc d)) fs p ≡ open_at (item_path p c)
   open_first d n list less = ap (with_shape (whole (suc d) fs) p) list ∙ ap list_of_items (open_from d n 0 (omega arith) (omega (arith, less)))
 
-kept_first : (xs ys : List Fact) (p : Path) (sh : Shape) → kept_shape xs p ≡ Some sh → kept_shape (xs ++ ys) p ≡ Some sh
+pub kept_first : (xs ys : List Fact) (p : Path) (sh : Shape) → kept_shape xs p ≡ Some sh → kept_shape (xs ++ ys) p ≡ Some sh
 kept_first [] ys p sh h = absurd (cc h)
 kept_first (x ∷ xs) ys p sh h =
     let P : Bool → Type 0 = λ b. cond b (Some x.shape) (kept_shape xs p) ≡ Some sh → cond b (Some x.shape) (kept_shape (xs ++ ys) p) ≡ Some sh in

@@ -14,7 +14,8 @@ use Rattle.tp_store.specs.declared.nodes.Nodes.{Nodes}
 use Rattle.tp_store.specs.Nodes.{path_along, facts_in_tree, ArePlainBelow, KeepsAll}
 use Rattle.tp_store.specs.KeptValue.{IsSaid, IsSaidWith, AreOfValue, IsRemembered, AreRemembered, CountsPlain, Replaces}
 use Rattle.tp_store.proofs.Members.{in_left, in_append}
-use Rattle.tp_store.proofs.Same.{AgreeAt, same_kept, same_whole}
+use Rattle.tp_store.proofs.Same.{AgreeAt, same_kept, same_whole, known_more_facts}
+use Rattle.tp_store.proofs.Plain.{kept_first, plain_stays}
 use Rattle.tp_store.proofs.States.{agree_all}
 use Rattle.tp_store.proofs.Parts.{of_in, kind_of}
 use Rattle.tp_store.proofs.Values.{value_said}
@@ -42,6 +43,14 @@ remembered_stays r y old new apart same is = record {
     said_stays : (o : Option (Rc Value Global)) → IsSaid o y old → IsSaid o y new
     said_stays None h = tt
     said_stays (Some v) h = (same_whole new old (path_along y []) apart same ∙ h.0, h.1)
+
+-- so it does where the variable gets facts
+pub remembered_grows : (r : Remembered) (y : VarId) (old news new : List Fact) → HaveSameShapes new (old ++ news) → IsRemembered r y old → IsRemembered r y new
+remembered_grows r y old news new same is = record { plain = plain_stays y old news new r.plain same is.plain; said = said_grows r.value is.said }
+  where
+    said_grows : (o : Option (Rc Value Global)) → IsSaid o y old → IsSaid o y new
+    said_grows None h = tt
+    said_grows (Some v) h = (known_more_facts old new (λ q sh e. same q ∙ kept_first old news q sh e) (path_along y []) (tree v.value) h.0, h.1)
 
 -- and what is found of all of them, where that of the variable is right
 pub all_remembered : (old_found new_found : ℕ → Option Remembered) (n : ℕ) (now : Remembered) (b : Bool) (old news new : List Fact)
@@ -75,14 +84,14 @@ pub record IsGrown (b : Bool) (old new : Nodes) (news : List Fact) : Type 0 wher
   pub is : NoClash (facts_in_tree b new)
   pub same : HaveSameShapes (facts_in_tree b new) (facts_in_tree b old ++ news)
 
-pub grown : (m : FactsOfKind) (b : Bool) (old new : Nodes) (x : VarId) (news : List Fact) → record { lasting = b; facts = facts_in_tree b old } ≡ m → x.lasting ≡ m.lasting → AreOf x news → NoClash (m.facts ++ news)
+pub grown : (m : FactsOfKind) (b : Bool) (old new : Nodes) (room count : ℕ) (x : VarId) (news : List Fact) → record { lasting = b; facts = facts_in_tree b old; spare = room; placed = count } ≡ m → x.lasting ≡ m.lasting → AreOf x news → NoClash (m.facts ++ news)
     → KeepsAll old news new → IsGrown b old new news
-grown m b old new x news seen kind a apart keeps =
+grown m b old new room count x news seen kind a apart keeps =
     let N : FactsOfKind → Type 0 = λ k. NoClash (k.facts ++ news) in
     let was = subst N (sym seen) apart in
     let k = keeps b (kind_of x b news (kind ∙ ap (λ (o : FactsOfKind). o.lasting) (sym seen)) a) was in
     record { was = was; is = k.0; same = k.1 }
 
 -- a variable by its number and its kind
-pub of_kind : (m : FactsOfKind) (b : Bool) (fs : List Fact) (x : VarId) → record { lasting = b; facts = fs } ≡ m → x.lasting ≡ m.lasting → x ≡ record { number = x.number; lasting = b }
-of_kind m b fs x seen kind = ap (λ k. record { number = x.number; lasting = k }) (kind ∙ ap (λ (o : FactsOfKind). o.lasting) (sym seen))
+pub of_kind : (m : FactsOfKind) (b : Bool) (fs : List Fact) (room count : ℕ) (x : VarId) → record { lasting = b; facts = fs; spare = room; placed = count } ≡ m → x.lasting ≡ m.lasting → x ≡ record { number = x.number; lasting = b }
+of_kind m b fs room count x seen kind = ap (λ k. record { number = x.number; lasting = k }) (kind ∙ ap (λ (o : FactsOfKind). o.lasting) (sym seen))

@@ -4,13 +4,14 @@ use Rattle.std.specs.Bool.{Decides}
 use Rattle.std.proofs.lemmas.Bool.{both_ways, or_cases, and_parts, false_from_ne_true}
 use Rattle.std.proofs.lemmas.Bool.Decides.{same_from_decides}
 use Rattle.std.proofs.lemmas.List.{length-append}
+use Rattle.tp_value.specs.Tree.{Tree}
 use Rattle.tp_value.specs.declared.value.Shape.{Shape}
 use Rattle.tp_value.specs.declared.value.Shape.TheVariants.{Num, Truth, Items}
 use Rattle.tp_value.specs.declared.path.VarId.{VarId}
 use Rattle.tp_value.specs.declared.path.Path.{Path}
 use Rattle.tp_value.specs.declared.path.Fact.{Fact}
 use Rattle.tp_store.specs.Facts.{same_variable, same_path, same_shape, leaves_out, excludes, clash, kept_shape, is_excluded, item_path, fact}
-use Rattle.tp_store.specs.Known.{NoClash, is_none, first_clash, Addition, refused_or, checked, new_facts, addition, adds, Whole, open_at, and_items, list_of_items, items_known, with_shape, whole, deepest, absent, limited, full}
+use Rattle.tp_store.specs.Known.{NoClash, is_none, first_clash, Addition, refused_or, checked, new_facts, addition, adds, Whole, WholeItems, known, open_at, all_known, item_open_at, and_items, list_of_items, items_known, with_shape, whole, deepest, absent, limited, full}
 use Rattle.tp_store.proofs.Paths.{same_variable-decides, same_path-decides, fact_from}
 use Rattle.tp_store.proofs.Members.{In, kept_in, kept_none, none_kept, in_kept, excluded_by, excluded_from}
 use Rattle.tp_store.proofs.First.{FirstOf, first_is, not_earlier-same}
@@ -136,6 +137,45 @@ deep_more zero d fs p h = let e : 0 + d ≡ d = omega arith in ap (λ n. whole n
 deep_more (suc m) d fs p h =
     let e : suc m + d ≡ suc (m + d) = omega arith in
     deep_more m d fs p h ∙ deep_enough (m + d) fs p (omega arith) ∙ ap (λ n. whole n fs p) (sym e)
+
+-- what more facts say of a value that is known
+items_more : (item other : Path → Whole) → ((q : Path) (t : Tree) → item q ≡ known t → other q ≡ known t) → (p : Path) (m k : ℕ) (ts : List Tree) → items_known item p m k ≡ all_known ts → items_known other p m k ≡ all_known ts
+items_more item other h p zero k ts e = e
+items_more item other h p (suc m) k ts e = by (λ us b. items_more item other h p m (suc k) us b) (item (item_path p k)) refl (items_known item p m (suc k)) refl
+  where
+    by : ((us : List Tree) → items_known item p m (suc k) ≡ all_known us → items_known other p m (suc k) ≡ all_known us) → (w : Whole) → item (item_path p k) ≡ w → (ws : WholeItems) → items_known item p m (suc k) ≡ ws → items_known other p (suc m) k ≡ all_known ts
+    by rest (open_at q) a ws b = let z : item_open_at q ≡ all_known ts = ap (λ w. and_items w (items_known item p m (suc k))) (sym a) ∙ e in cc z
+    by rest (known t) a (item_open_at q) b = let z : item_open_at q ≡ all_known ts = ap₂ and_items (sym a) (sym b) ∙ e in cc z
+    by rest (known t) a (all_known us) b =
+        let all : all_known (t ∷ us) ≡ all_known ts = ap₂ and_items (sym a) (sym b) ∙ e in
+        ap₂ and_items (h (item_path p k) t a) (rest us b) ∙ all
+
+shape_more : (item other : Path → Whole) → ((q : Path) (t : Tree) → item q ≡ known t → other q ≡ known t) → (p : Path) (sh : Shape) (t : Tree) → with_shape item p (Some sh) ≡ known t → with_shape other p (Some sh) ≡ known t
+shape_more item other h p (Num n) t e = e
+shape_more item other h p (Truth b) t e = e
+shape_more item other h p (Items n) t e = by (items_known item p n 0) refl
+  where
+    by : (ws : WholeItems) → items_known item p n 0 ≡ ws → list_of_items (items_known other p n 0) ≡ known t
+    by (item_open_at q) a = let z : open_at q ≡ known t = ap list_of_items (sym a) ∙ e in cc z
+    by (all_known us) a = ap list_of_items (items_more item other h p n 0 us a) ∙ ap list_of_items (sym a) ∙ e
+
+whole_more : (d : ℕ) (fs gs : List Fact) → ((q : Path) (sh : Shape) → kept_shape fs q ≡ Some sh → kept_shape gs q ≡ Some sh) → (p : Path) (t : Tree) → whole d fs p ≡ known t → whole d gs p ≡ known t
+whole_more zero fs gs h p t e = let z : open_at p ≡ known t = e in cc z
+whole_more (suc d) fs gs h p t e = by (whole_more d fs gs h) (kept_shape fs p) refl
+  where
+    by : ((q : Path) (u : Tree) → whole d fs q ≡ known u → whole d gs q ≡ known u) → (o : Option Shape) → kept_shape fs p ≡ o → whole (suc d) gs p ≡ known t
+    by rest None a = let z : open_at p ≡ known t = ap (with_shape (whole d fs) p) (sym a) ∙ e in cc z
+    by rest (Some sh) a =
+        ap (with_shape (whole d gs) p) (h p sh a)
+        ∙ shape_more (whole d fs) (whole d gs) rest p sh t (ap (with_shape (whole d fs) p) (sym a) ∙ e)
+
+pub known_more_facts : (fs gs : List Fact) → ((q : Path) (sh : Shape) → kept_shape fs q ≡ Some sh → kept_shape gs q ≡ Some sh) → (p : Path) (t : Tree)
+    → whole (suc (deepest fs)) fs p ≡ known t → whole (suc (deepest gs)) gs p ≡ known t
+known_more_facts fs gs h p t e =
+    let x = deepest fs in
+    let y = deepest gs in
+    let swap : x + suc y ≡ y + suc x = omega arith in
+    deep_more x (suc y) gs p (omega arith) ∙ ap (λ n. whole n gs p) swap ∙ whole_more (y + suc x) fs gs h p t (sym (deep_more y (suc x) fs p (omega arith)) ∙ e)
 
 pub same_whole : (fs gs : List Fact) (p : Path) → NoClash gs → AgreeAt p.var fs gs → whole (suc (deepest fs)) fs p ≡ whole (suc (deepest gs)) gs p
 same_whole fs gs p m a =

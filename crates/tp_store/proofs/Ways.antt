@@ -8,6 +8,7 @@ use Rattle.indexmap.proofs.MapLemmas.{Missing-position, insert_entry-absent}
 use Rattle.std.proofs.lemmas.Bool.{or_cases, or_parts, both_ways, false_from_ne_true}
 use Rattle.std.proofs.lemmas.Option.{slice_get-map, slice_get-get_or}
 use Rattle.std.proofs.Math.Seq.{drop-cons}
+use Rattle.tp_value.specs.declared.value.Shape.{Shape}
 use Rattle.tp_value.specs.declared.path.Path.{Path}
 use Rattle.tp_value.specs.declared.path.Fact.{Fact}
 use Rattle.tp_store.specs.declared.nodes.Edge.{Edge}
@@ -58,6 +59,16 @@ pub shape_of_node : (ns : List Node) (i : ℕ) (n : Node) → slice_get ns i ≡
 shape_of_node [] i n h = absurd (cc)
 shape_of_node (m ∷ ns) zero n h = let s : m ≡ n = cc h in ap (λ (k : Node). k.shape) s
 shape_of_node (m ∷ ns) (suc i) n h = shape_of_node ns i n h
+
+pub among_within : (ns : List Node) (i : ℕ) (sh : Shape) → shape_among ns i ≡ Some sh → i < length ns
+among_within [] i sh h = absurd (cc h)
+among_within (m ∷ ns) zero sh h = omega arith
+among_within (m ∷ ns) (suc i) sh h = let w = among_within ns i sh h in omega (arith, w)
+
+pub beyond_past : (ns : List Node) (i : ℕ) → slice_get ns i ≡ None → beyond_among ns i ≡ 0
+beyond_past [] i h = refl
+beyond_past (m ∷ ns) zero h = absurd (cc h)
+beyond_past (m ∷ ns) (suc i) h = beyond_past ns i h
 
 pub shape_past : (ns : List Node) (i : ℕ) → slice_get ns i ≡ None → shape_among ns i ≡ None
 shape_past [] i h = refl

@@ -15,6 +15,11 @@ abbrev pub lacks_item : Option Shape → ℕ → Bool
 lacks_item None k = false
 lacks_item (Some sh) k = not (has_item sh k)
 
+-- an index is there, for which the shape has no item
+abbrev pub has_no_item : Shape → Option ℕ → Bool
+has_no_item sh None = false
+has_no_item sh (Some k) = not (has_item sh k)
+
 -- the path of its first indices, of so many
 abbrev pub outer_path : Path → ℕ → Path
 outer_path p n = record { var = p.var; at = take n p.at }
@@ -36,10 +41,13 @@ abbrev pub AreOfKind : (lasting : Bool) → List Fact → Type 0
 AreOfKind b [] = Unit {0}
 AreOfKind b (f ∷ fs) = (f.path.var.lasting ≡ b) × AreOfKind b fs
 
--- Facts of variables of one kind.
+-- Facts of variables of one kind; the room that there is for more, as a store has it; and a number
+-- below which each variable has a place.
 pub record FactsOfKind : Type 0 where
   pub lasting : Bool
   pub facts : List Fact
+  pub spare : ℕ
+  pub placed : ℕ
 
 -- The fact's path has no shape yet, and no kept fact clashes with it.
 pub record IsNewFact (kept : List Fact) (f : Fact) : Type 0 where

@@ -1,5 +1,6 @@
 pub mod Facts
 pub mod Known
+pub mod Stock
 pub mod Entries
 pub mod FactMap
 pub mod Nodes

@@ -1,13 +1,14 @@
 -- Facts as a tree of paths: its nodes, and what is kept at them.
-use Rattle.std.specs.Prelude.{◌≡◌, ◌<◌, ◌+◌, ◌*◌, ◌^◌, ◌%◌, ℕ, zero, suc, Bool, not, ◌&&◌, ◌||◌, eqb, false, List, [], ◌∷◌, ◌++◌, Option, Some, None, slice_get, slice_index_or, length}
+use Rattle.std.specs.Prelude.{◌≡◌, ◌<◌, ◌+◌, ◌*◌, ◌^◌, ◌%◌, ℕ, zero, suc, Bool, not, ◌&&◌, ◌||◌, eqb, false, List, [], ◌∷◌, ◌++◌, Option, Some, None, slice_get, slice_index_or, length, if◌then◌else◌}
 use Rattle.std.specs.List.{position}
+use Rattle.indexmap.specs.IndexMap.{spare}
 use Rattle.std.specs.Option.{option_map}
 use Rattle.std.specs.Map.{keys_of, values_of}
 use Rattle.tp_value.specs.declared.value.Shape.{Shape}
 use Rattle.tp_value.specs.declared.path.VarId.{VarId}
 use Rattle.tp_value.specs.declared.path.Path.{Path}
 use Rattle.tp_value.specs.declared.path.Fact.{Fact}
-use Rattle.tp_store.specs.Facts.{fact, kept_shape}
+use Rattle.tp_store.specs.Facts.{fact, has_item, kept_shape}
 use Rattle.tp_value.specs.declared.value.Shape.TheVariants.{Items}
 use Rattle.tp_store.specs.FactMap.{lacks_item, AreOfKind, IsNumberOrTruth}
 use Rattle.tp_store.specs.Known.{NoClash}
@@ -146,12 +147,15 @@ pub record IsTree (t : Nodes) : Type 0 where
 pub record HasMoreNodes (old new : Nodes) : Type 0 where
   pub more : List Edge
   pub edges : edges_in new ≡ edges_in old ++ more
+  pub placed : length new.places.items ≡ length old.places.items
   pub facts : (b : Bool) → facts_in_tree b new ≡ facts_in_tree b old
 
 -- The bound of a node is past this index, and the rest is as it was.
 pub record IsRaised (old : Nodes) (node index : ℕ) (new : Nodes) : Type 0 where
   pub tree : IsTree new
   pub edges : edges_in new ≡ edges_in old
+  pub placed : length new.places.items ≡ length old.places.items
+  pub room : spare new.below ≡ spare old.below
   pub long : length (nodes_in new) ≡ length (nodes_in old)
   pub facts : (b : Bool) → facts_in_tree b new ≡ facts_in_tree b old
   pub bound : index < beyond_among (nodes_in new) node
@@ -191,6 +195,26 @@ pub record LacksShape (t : Nodes) (number index : ℕ) : Type 0 where
   pub within : index < count
   pub none : item_shape t number index ≡ None
 
+-- the indices that lead to a node
+abbrev pub route_to : Nodes → ℕ → List ℕ
+route_to t n = slice_index_or (routes (edges_in t)) n []
+
+-- the index that follows the first indices in the others, where these begin with them and go on
+abbrev pub index_behind : (first others : List ℕ) → Option ℕ
+index_behind [] [] = None
+index_behind [] (k ∷ ks) = Some k
+index_behind (j ∷ js) [] = None
+index_behind (j ∷ js) (k ∷ ks) = if eqb j k then index_behind js ks else None
+
+-- A fact is kept at that node, and its path goes on from the first one with an index that the shape
+-- has no item for.
+pub record IsCutOff (t : Nodes) (first : ℕ) (shape : Shape) (at : ℕ) : Type 0 where
+  pub kept : Shape
+  pub there : shape_among (nodes_in t) at ≡ Some kept
+  pub index : ℕ
+  pub after : index_behind (route_to t first) (route_to t at) ≡ Some index
+  pub none : has_item shape index ≡ false
+
 -- The facts are kept in a tree beside those that were, where they are of variables of one kind and
 -- don't clash.
 abbrev pub KeepsAll : Nodes → List Fact → Nodes → Type 0
@@ -198,6 +222,11 @@ KeepsAll old fs new =
     (b : Bool) → AreOfKind b fs → NoClash (facts_in_tree b old ++ fs)
     → NoClash (facts_in_tree b new)
     × HaveSameShapes (facts_in_tree b new) (facts_in_tree b old ++ fs)
+
+-- each fact is of a variable with a lesser number
+abbrev pub ArePlaced : (count : ℕ) → List Fact → Type 0
+ArePlaced n [] = Unit {0}
+ArePlaced n (f ∷ fs) = (f.path.var.number < n) × ArePlaced n fs
 
 -- each fact's path leads to the node with the number beside it
 abbrev pub AreWays : List Edge → List Fact → List ℕ → Type 0

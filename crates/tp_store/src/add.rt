@@ -4,6 +4,7 @@ ghost use Rattle.tp_value.specs.Read.{tree};
 ghost use Rattle.tp_value.specs.declared.value.Shape.TheVariants as shape;
 ghost use Rattle.tp_store.specs.Facts.{facts_at, fact};
 ghost use Rattle.tp_store.specs.Known.{addition, adds, new_facts, IsVariableOf, NoClash};
+ghost use Rattle.tp_store.specs.Stock.{contents_in};
 ghost use Rattle.tp_store.specs.FactMap.{AreOf, AreOfKind};
 ghost use Rattle.tp_store.specs.KeptValue.{AreOfValue};
 ghost use Rattle.tp_store.specs.Answers.{Adds, IsRefusal};
@@ -154,16 +155,18 @@ fn add_in(
     value: Option<Rc<Value>>,
 ) -> Result<Facts, AddRefusal>
     requires kind { var.lasting ≡ kept.old.lasting }
+    requires placed { var.number < kept.old.placed }
     requires filed { AreOf var facts.items }
     requires apart { NoClash facts.items }
     requires value { AreOfValue var facts.items value }
     ensures added { IfOk result (λ news. addition kept.old.facts facts.items ≡ adds news) }
     ensures refused { IfErr result (IsRefusal (addition kept.old.facts facts.items)) }
     ensures kind { kept.new.lasting ≡ kept.old.lasting }
+    ensures placed { kept.new.placed ≡ kept.old.placed }
     ensures of_kind { IfOk result (λ news. AreOfKind kept.new.lasting kept.new.facts) }
     ensures apart { IfOk result (λ news. NoClash kept.new.facts) }
     ensures ok { IfOk result (λ news. HaveSameShapes kept.new.facts (kept.old.facts ++ news)) }
-    ensures err { OnErr result (kept.new ≡ kept.old) }
+    ensures err { OnErr result (kept.new.facts ≡ kept.old.facts) }
 {
     let news = news_in(alloc, kept, var, facts)?;
     kept.add(alloc, var, news.as_slice(), value)?;
@@ -181,9 +184,10 @@ impl Store {
             addition self.old.facts (facts_at path.now (tree value.now)) ≡ adds news) }
         ensures refused { IfErr result
             (IsRefusal (addition self.old.facts (facts_at path.now (tree value.now)))) }
-        ensures added { IfOk result (λ news. AddsFacts self.old news self.new) }
-        ensures err { OnErr result (self.new ≡ self.old) }
-        ensures sound { IsSoundStore self.new }
+        ensures added { IfOk result (λ news.
+            AddsFacts (contents_in self.old) news (contents_in self.new)) }
+        ensures err { OnErr result (contents_in self.new ≡ contents_in self.old) }
+        ensures sound { IsSoundStore (contents_in self.new) }
     {
         let alloc = self.alloc;
         let path = path.copy()?;
@@ -198,9 +202,10 @@ impl Store {
             addition self.old.facts (facts_at path (tree value)) ≡ adds news) }
         ensures refused { IfErr result
             (IsRefusal (addition self.old.facts (facts_at path (tree value)))) }
-        ensures added { IfOk result (λ news. AddsFacts self.old news self.new) }
-        ensures err { OnErr result (self.new ≡ self.old) }
-        ensures sound { IsSoundStore self.new }
+        ensures added { IfOk result (λ news.
+            AddsFacts (contents_in self.old) news (contents_in self.new)) }
+        ensures err { OnErr result (contents_in self.new ≡ contents_in self.old) }
+        ensures sound { IsSoundStore (contents_in self.new) }
     {
         match value {
             Value::Num(n) => self.add_shape(path, Shape::Num(n)),
@@ -216,9 +221,10 @@ impl Store {
             addition self.old.facts (facts_at path.now (tree value)) ≡ adds news) }
         ensures refused { IfErr result
             (IsRefusal (addition self.old.facts (facts_at path.now (tree value)))) }
-        ensures added { IfOk result (λ news. AddsFacts self.old news self.new) }
-        ensures err { OnErr result (self.new ≡ self.old) }
-        ensures sound { IsSoundStore self.new }
+        ensures added { IfOk result (λ news.
+            AddsFacts (contents_in self.old) news (contents_in self.new)) }
+        ensures err { OnErr result (contents_in self.new ≡ contents_in self.old) }
+        ensures sound { IsSoundStore (contents_in self.new) }
     {
         let facts = value_facts(self.alloc, path, &value)?;
         let whole = list_of_variable(self.alloc, path, value)?;
@@ -233,9 +239,10 @@ impl Store {
             addition self.old.facts (fact path shape ∷ []) ≡ adds news) }
         ensures refused { IfErr result
             (IsRefusal (addition self.old.facts (fact path shape ∷ []))) }
-        ensures added { IfOk result (λ news. AddsFacts self.old news self.new) }
-        ensures err { OnErr result (self.new ≡ self.old) }
-        ensures sound { IsSoundStore self.new }
+        ensures added { IfOk result (λ news.
+            AddsFacts (contents_in self.old) news (contents_in self.new)) }
+        ensures err { OnErr result (contents_in self.new ≡ contents_in self.old) }
+        ensures sound { IsSoundStore (contents_in self.new) }
     {
         let var = path.var;
         let facts = one_fact(self.alloc, path, shape)?;
@@ -250,9 +257,10 @@ impl Store {
             addition self.old.facts (fact path.now (shape.Items length) ∷ []) ≡ adds news) }
         ensures refused { IfErr result
             (IsRefusal (addition self.old.facts (fact path.now (shape.Items length) ∷ []))) }
-        ensures added { IfOk result (λ news. AddsFacts self.old news self.new) }
-        ensures err { OnErr result (self.new ≡ self.old) }
-        ensures sound { IsSoundStore self.new }
+        ensures added { IfOk result (λ news.
+            AddsFacts (contents_in self.old) news (contents_in self.new)) }
+        ensures err { OnErr result (contents_in self.new ≡ contents_in self.old) }
+        ensures sound { IsSoundStore (contents_in self.new) }
     {
         let _ = &self.alloc;
         let path = path.copy()?;
@@ -311,9 +319,10 @@ impl Store {
         requires apart { NoClash facts.items }
         ensures news { IfOk result (λ news. addition self.old.facts facts.items ≡ adds news) }
         ensures refused { IfErr result (IsRefusal (addition self.old.facts facts.items)) }
-        ensures added { IfOk result (λ news. AddsFacts self.old news self.new) }
-        ensures err { OnErr result (self.new ≡ self.old) }
-        ensures sound { IsSoundStore self.new }
+        ensures added { IfOk result (λ news.
+            AddsFacts (contents_in self.old) news (contents_in self.new)) }
+        ensures err { OnErr result (contents_in self.new ≡ contents_in self.old) }
+        ensures sound { IsSoundStore (contents_in self.new) }
     {
         if var.lasting {
             let news = add_in(self.alloc, &mut self.fixed, var, facts, value)?;

@@ -2,7 +2,7 @@
 ghost use Rattle.std.specs.Prelude.{◌≡◌, length};
 ghost use Rattle.tp_store.specs.Facts.{same_variable, same_indices, same_path, same_shape, has_item, leaves_out, excludes, clash, fact};
 ghost use Rattle.tp_store.specs.Known.{is_lesser, is_earlier};
-ghost use Rattle.tp_store.specs.FactMap.{lacks_item};
+ghost use Rattle.tp_store.specs.FactMap.{lacks_item, has_no_item};
 ghost use Rattle.tp_value.specs.declared.value.Shape.{Shape};
 
 use tp_value::{Fact, Path, Shape, VarId};
@@ -42,6 +42,19 @@ pub fn lacks_item(shape: Option<Shape>, index: u32) -> bool
 {
     match shape {
         Some(shape) => !has_item(shape, index),
+        None => false,
+    }
+}
+
+/// Whether an index is there for which the shape has no item.
+pub fn lacks(shape: Shape, index: Option<u64>) -> bool
+    ensures { result ≡ has_no_item shape index }
+{
+    match index {
+        Some(index) => match shape {
+            Shape::Items(n) => index >= u64::from(n),
+            Shape::Num(_) | Shape::Truth(_) => true,
+        },
         None => false,
     }
 }

@@ -1,21 +1,25 @@
 // Facts, found by their paths.
-ghost use Rattle.std.specs.Prelude.{◌≡◌, ◌<◌, ◌^◌, ◌++◌, [], nat_eq, true, false, None, Some, IfOk, OnOk, OnErr, IsTrue, ℕ, suc};
+ghost use Rattle.std.specs.Prelude.{◌≡◌, ◌<◌, ◌≤◌, ◌+◌, ◌^◌, ◌++◌, ◌∷◌, [], length, nat_eq, true, false, None, Some, IfOk, OnOk, OnErr, IsTrue, ℕ, suc};
 ghost use Rattle.indexmap.specs.IndexMap.{get};
 ghost use Rattle.std.specs.Option.{option_copied};
-ghost use Rattle.tp_store.specs.Facts.{kept_shape, is_excluded, has_item, item_path};
+ghost use Rattle.tp_store.specs.Facts.{fact, kept_shape, is_excluded, has_item, item_path};
 ghost use Rattle.tp_store.specs.Known.{NoClash, addition, adds, deepest, first_clash, full, new_facts, open_at, value, whole};
 ghost use Rattle.tp_store.specs.Changes.{HaveSameShapes};
 ghost use Rattle.tp_store.specs.FactMap.{facts_asked, AreOf, AreOfKind, IsNewFact, IsNumberOrTruth};
-ghost use Rattle.tp_store.specs.Nodes.{edges_in, node_from, facts_in_tree, item_shape, path_along, way_of, IsTree, ArePlainItems, LacksShape};
+ghost use Rattle.tp_store.specs.Nodes.{edges_in, nodes_in, node_from, facts_in_tree, item_shape, path_along, way_of, IsTree, IsCutOff, ArePlainItems, LacksShape};
+ghost use Rattle.tp_store.specs.Answers.{IsNoted};
 ghost use Rattle.tp_store.specs.KeptValue.{CountsPlain, IsSaidWith, Replaces};
 ghost use Rattle.tp_value.specs.Read.{tree};
 ghost use Rattle.std.specs.declared.rc.Rc.{Rc};
 ghost use Rattle.std.specs.declared.alloc.Global.{Global};
 ghost use Rattle.tp_value.specs.declared.value.Value.{Value as ValueSeen};
 
-use crate::clash::{clashes, is_earlier, same_shape};
+use crate::clash::{clashes, is_earlier};
 use crate::copies::{Which, copy_facts};
-use crate::nodes::{Nodes, keep_facts};
+use crate::judge::judge_in;
+use crate::keeping::{keep_facts, keep_shape};
+use crate::nodes::Nodes;
+use crate::note::Noted;
 use indexmap::IndexMap;
 use std::alloc::Global;
 use std::marker::Model;
@@ -49,13 +53,18 @@ impl Model for FactMap {
 
     ghost Value = { FactsOfKind };
 
-    ghost use Rattle.std.specs.Prelude.{◌≡◌, ◌<◌, ◌^◌, nat_eq};
-    ghost use Rattle.indexmap.specs.IndexMap.{get};
+    ghost use Rattle.std.specs.Prelude.{◌≡◌, ◌<◌, ◌^◌, length, nat_eq};
+    ghost use Rattle.indexmap.specs.IndexMap.{get, spare};
     ghost use Rattle.tp_store.specs.Known.{NoClash, deepest};
     ghost use Rattle.tp_store.specs.Nodes.{facts_in_tree, IsTree};
     ghost use Rattle.tp_store.specs.KeptValue.{AreRemembered};
 
-    ghost view = { λ m. record { lasting = m.lasting; facts = facts_in_tree m.lasting m.nodes } };
+    ghost view = { λ m. record {
+      lasting = m.lasting;
+      facts = facts_in_tree m.lasting m.nodes;
+      spare = spare m.nodes.below;
+      placed = length m.nodes.places.items;
+    } };
 
     ghost invariant = { λ m.
         NoClash (facts_in_tree m.lasting m.nodes)
@@ -65,6 +74,14 @@ impl Model for FactMap {
         × AreRemembered (get nat_eq m.lists) m.lasting (facts_in_tree m.lasting m.nodes) };
 }
 
+// The number of a path's indices.
+fn count_of(path: &Path) -> u64
+    ensures value { result ≡ length path.now.at }
+    ensures bound { result < 2 ^ 63 }
+{
+    path.at.items.len() as u64
+}
+
 // The greatest number of indices of a path of these facts.
 fn depth_of(facts: &[Fact]) -> u64
     ensures value { result ≡ deepest facts.now }
@@ -72,19 +89,9 @@ fn depth_of(facts: &[Fact]) -> u64
 {
     let mut most = 0u64;
     for fact in facts {
-        most = most.max(fact.path.at.items.len() as u64);
+        most = most.max(count_of(&fact.path));
     }
     most
-}
-
-// Whether the shape has an item at each index below this bound.
-fn has_all(shape: Shape, beyond: u64) -> bool
-    ensures { IsTrue result → (k : ℕ) → k < beyond → has_item shape k ≡ true }
-{
-    match shape {
-        Shape::Items(n) => beyond <= u64::from(n),
-        Shape::Num(_) | Shape::Truth(_) => beyond == 0,
-    }
 }
 
 // Whether this is the shape of a number or of a truth.
@@ -137,6 +144,24 @@ fn plain_after(nodes: &Nodes, number: u64, from: u32, news: &[Fact]) -> u32
     }
 }
 
+// The same, where this is what is kept of the whole value: where it is kept no item is open, so none is looked at.
+fn plain_beside(
+    nodes: &Nodes,
+    number: u64,
+    from: u32,
+    news: &[Fact],
+    value: &Option<Rc<Value>>,
+) -> u32
+    requires tree { IsTree nodes.now }
+    requires plain { ArePlainItems from number nodes.now }
+    ensures { ArePlainItems result number nodes.now }
+{
+    match value {
+        Some(_) => from,
+        None => plain_after(nodes, number, from, news),
+    }
+}
+
 // Whether the variable with that number is a list that has an item with this index, of which nothing is kept.
 fn lacks_shape(nodes: &Nodes, number: u64, index: u32) -> bool
     requires { IsTree nodes.now }
@@ -178,55 +203,6 @@ fn remember(lists: &mut IndexMap<u64, Remembered>, number: u64, now: Remembered)
     let _ = lists.insert(number, now);
 }
 
-// Whether a fact that is kept may clash with one whose path leads to the node with that number.
-fn may_clash_at(nodes: &Nodes, number: u64, fact: &Fact) -> bool
-    requires tree { IsTree nodes.now }
-    requires no_clash { NoClash (facts_in_tree fact.now.path.var.lasting nodes.now) }
-    requires way { node_from (edges_in nodes.now) (way_of fact.now.path) 0 ≡ Some number }
-    ensures { result ≡ false
-        → first_clash (facts_in_tree fact.now.path.var.lasting nodes.now) fact.now ≡ None }
-{
-    let _count = nodes.count();
-    let Some(node) = nodes.node(number) else {
-        return true;
-    };
-    if let Some(shape) = node.shape {
-        return !same_shape(shape, fact.shape);
-    }
-    if !has_all(fact.shape, node.beyond) {
-        return true;
-    }
-    nodes.lacks(&fact.path)
-}
-
-// Whether a fact that is kept may clash with this one, of a variable of the same kind.
-fn may_clash_in(nodes: &Nodes, fact: &Fact) -> bool
-    requires tree { IsTree nodes.now }
-    requires no_clash { NoClash (facts_in_tree fact.now.path.var.lasting nodes.now) }
-    ensures { result ≡ false
-        → first_clash (facts_in_tree fact.now.path.var.lasting nodes.now) fact.now ≡ None }
-{
-    let _count = nodes.count();
-    match nodes.find(&fact.path) {
-        Some(number) => may_clash_at(nodes, number, fact),
-        None => nodes.lacks(&fact.path),
-    }
-}
-
-// Whether this fact, of a variable of the same kind, is new and clashes with none that is kept, where that is seen without a node of its own.
-fn is_new_in(nodes: &Nodes, fact: &Fact) -> bool
-    requires tree { IsTree nodes.now }
-    requires no_clash { NoClash (facts_in_tree fact.now.path.var.lasting nodes.now) }
-    ensures { IsTrue result
-        → IsNewFact (facts_in_tree fact.now.path.var.lasting nodes.now) fact.now }
-{
-    let _count = nodes.count();
-    match nodes.find(&fact.path) {
-        Some(_) => false,
-        None => !nodes.lacks(&fact.path),
-    }
-}
-
 // Of these facts that which clashes with the other and is first: with the fewest indices, and among these with the lesser ones.
 fn find_clash<'a>(facts: &'a [Fact], fact: &Fact) -> Option<&'a Fact>
     ensures { option_copied result ≡ first_clash facts.now fact.now }
@@ -247,7 +223,8 @@ fn find_clash<'a>(facts: &'a [Fact], fact: &Fact) -> Option<&'a Fact>
 impl FactMap {
     /// No fact.
     pub fn new(alloc: Global, lasting: bool) -> FactMap
-        ensures { result ≡ record { lasting = lasting; facts = [] } }
+        ensures kind { result.lasting ≡ lasting }
+        ensures facts { result.facts ≡ [] }
     {
         FactMap {
             lasting,
@@ -316,20 +293,35 @@ impl FactMap {
         }
     }
 
-    // Whether a fact may clash with this one. Where memory ran out, none may do so after all.
-    fn may_clash(&self, fact: &Fact) -> bool
+    /// What becomes of a fact of a variable of this kind.
+    pub fn judge(&self, path: &Path, shape: Shape) -> Noted
+        requires { path.now.var.lasting ≡ self.now.lasting }
+        ensures { IsNoted self.now.facts (fact path.now shape) result }
+    {
+        let _ = &self.depth;
+        judge_in(&self.nodes, path, shape)
+    }
+
+    // Whether a fact clashes with this one.
+    fn has_clash(&self, fact: &Fact) -> bool
         ensures { result ≡ false → first_clash self.now.facts fact.now ≡ None }
     {
-        fact.path.var.lasting == self.lasting && may_clash_in(&self.nodes, fact)
+        if fact.path.var.lasting != self.lasting {
+            return false;
+        }
+        match self.judge(&fact.path, fact.shape) {
+            Noted::Clash => true,
+            Noted::New | Noted::Kept => false,
+        }
     }
 
     /// Of the facts that clash with this one, that with the fewest indices, and among these with the lesser ones. Those of its variable are
-    /// looked at only where one may clash.
+    /// looked at only where one clashes.
     pub fn first_clash(&self, alloc: Global, fact: &Fact) -> Result<Option<Fact>, NoMemory>
         ensures { IfOk result (λ first. first ≡ first_clash self.now.facts fact.now) }
     {
         let _ = &self.lasting;
-        if !self.may_clash(fact) {
+        if !self.has_clash(fact) {
             return Ok(None);
         }
         let mut facts = Vec::new(alloc);
@@ -341,11 +333,11 @@ impl FactMap {
         Ok(Some(first))
     }
 
-    // Whether the fact is new and clashes with none of these, where that is seen by one look.
+    // Whether the fact is new and clashes with none of these.
     fn is_new(&self, fact: &Fact) -> bool
         ensures { IsTrue result → IsNewFact self.now.facts fact.now }
     {
-        fact.path.var.lasting == self.lasting && is_new_in(&self.nodes, fact)
+        fact.path.var.lasting == self.lasting && self.judge(&fact.path, fact.shape) == Noted::New
     }
 
     /// Whether it is seen by a look or two that all of these facts of a variable are new and clash with none that is kept.
@@ -402,28 +394,71 @@ impl FactMap {
         value: Option<Rc<Value>>,
     ) -> Result<(), NoMemory>
         requires kind { var.lasting ≡ self.old.lasting }
+        requires placed { var.number < self.old.placed }
         requires of { AreOf var news.now }
         requires apart { NoClash (self.old.facts ++ news.now) }
         requires said { IsSaidWith value var self.old.facts news.now }
         ensures kind { self.new.lasting ≡ self.old.lasting }
+        ensures placed { self.new.placed ≡ self.old.placed }
         ensures of_kind { AreOfKind self.new.lasting self.new.facts }
         ensures apart { NoClash self.new.facts }
         ensures ok { OnOk result (HaveSameShapes self.new.facts (self.old.facts ++ news.now)) }
-        ensures err { OnErr result (self.new ≡ self.old) }
+        ensures err { OnErr result (self.new.facts ≡ self.old.facts) }
     {
         keep_facts(&mut self.nodes, alloc, news)?;
         self.depth = self.depth.max(depth_of(news));
         let _count = self.nodes.count();
         let from = plain_of(&self.lists, var.number);
-        let plain = plain_after(&self.nodes, var.number, from, news);
+        let plain = plain_beside(&self.nodes, var.number, from, news, &value);
         remember(&mut self.lists, var.number, Remembered { plain, value });
         Ok(())
+    }
+
+    /// Has a place for each variable with a lesser number.
+    pub fn place(&mut self, count: u64) -> Result<(), NoMemory>
+        ensures kind { self.new.lasting ≡ self.old.lasting }
+        ensures facts { self.new.facts ≡ self.old.facts }
+        ensures room { self.new.spare ≡ self.old.spare }
+        ensures more { self.old.placed ≤ self.new.placed }
+        ensures ok { OnOk result (count ≤ self.new.placed) }
+    {
+        self.nodes.place(count)
+    }
+
+    /// Makes room for facts, of which each takes one more than its path has indices.
+    pub fn reserve(&mut self, room: usize) -> Result<(), NoMemory>
+        ensures kind { self.new.lasting ≡ self.old.lasting }
+        ensures facts { self.new.facts ≡ self.old.facts }
+        ensures placed { self.new.placed ≡ self.old.placed }
+        ensures room { self.old.spare ≤ self.new.spare }
+        ensures ok { OnOk result (room ≤ self.new.spare) }
+    {
+        self.nodes.reserve(room)
+    }
+
+    /// Keeps a fact that is new and clashes with none that is kept, where there is room for it.
+    pub fn keep(&mut self, path: &Path, shape: Shape)
+        requires kind { path.now.var.lasting ≡ self.old.lasting }
+        requires placed { path.now.var.number < self.old.placed }
+        requires room { length path.now.at < self.old.spare }
+        requires new { IsNewFact self.old.facts (fact path.now shape) }
+        ensures kind { self.new.lasting ≡ self.old.lasting }
+        ensures placed { self.new.placed ≡ self.old.placed }
+        ensures room { self.old.spare ≤ self.new.spare + suc (length path.now.at) }
+        ensures of_kind { AreOfKind self.new.lasting self.new.facts }
+        ensures apart { NoClash self.new.facts }
+        ensures kept { HaveSameShapes self.new.facts (self.old.facts ++ fact path.now shape ∷ []) }
+    {
+        keep_shape(&mut self.nodes, path, shape);
+        self.depth = self.depth.max(count_of(path));
     }
 
     /// Drops all facts, and keeps their room.
     pub fn clear(&mut self)
         ensures kind { self.new.lasting ≡ self.old.lasting }
         ensures facts { self.new.facts ≡ [] }
+        ensures placed { self.new.placed ≡ self.old.placed }
+        ensures room { self.old.spare ≤ self.new.spare }
     {
         self.nodes.clear();
         self.depth = 0;

@@ -7,6 +7,7 @@ ghost use Rattle.tp_value.specs.Read.{tree};
 ghost use Rattle.tp_value.specs.declared.value.Value.{Value as ValueSeen};
 ghost use Rattle.tp_value.specs.declared.path.Path.{Path as PathSeen};
 ghost use Rattle.tp_store.specs.Known.{full, value, whole, list_of_items, items_known};
+ghost use Rattle.tp_store.specs.Stock.{contents_in};
 ghost use Rattle.tp_store.specs.Changes.{IsSoundStore};
 ghost use Rattle.tp_store.specs.Facts.{item_path};
 ghost use Rattle.tp_store.specs.Answers.{full_of, whole_of};
@@ -154,7 +155,7 @@ impl Store {
     pub fn kept_value(&self, path: &Path) -> Option<&Rc<Value>>
         ensures value { (v : Rc ValueSeen Global) → option_copied result ≡ Some v
             → full self.now.facts path.now ≡ value (tree v.value) }
-        ensures sound { IsSoundStore self.now }
+        ensures sound { IsSoundStore (contents_in self.now) }
     {
         kept_at(part(&self.state, &self.fixed, path.var.lasting), path)
     }
@@ -163,7 +164,7 @@ impl Store {
     /// from this one downwards in the order of the items, whose shape isn't kept; else whether the whole value is within the limit of lists.
     pub fn full(&self, path: &Path) -> Result<Known, NoMemory>
         ensures value { IfOk result (λ known. full_of known ≡ full self.now.facts path.now) }
-        ensures sound { IsSoundStore self.now }
+        ensures sound { IsSoundStore (contents_in self.now) }
     {
         let facts = part(&self.state, &self.fixed, path.var.lasting);
         let known = full_in(self.alloc, facts, path)?;

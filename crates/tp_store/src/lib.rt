@@ -7,11 +7,15 @@ mod copies;
 mod entry;
 mod fact_map;
 mod full;
+mod judge;
+mod keeping;
 mod laws;
 mod nodes;
+mod note;
 mod store;
 
 pub use add::{AddRefusal, value_facts};
 pub use full::Known;
 pub use laws::{adding_is_right, agreeing_states_exist, known_is_right};
+pub use note::Noted;
 pub use store::Store;

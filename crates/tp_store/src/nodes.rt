@@ -1,10 +1,12 @@
 // Facts as a tree of paths: a node for each variable and each place in its value that a fact speaks of, and for those on the way there.
-ghost use Rattle.std.specs.Prelude.{◌≡◌, ◌<◌, ◌^◌, ◌++◌, [], ◌∷◌, length, slice_get, slice_index_or, false, Some, None, IfOk, OnOk, OnErr, ℕ, Bool};
+ghost use Rattle.std.specs.Prelude.{◌≡◌, ◌<◌, ◌≤◌, ◌+◌, ◌^◌, ◌++◌, [], ◌∷◌, suc, length, slice_get, slice_index_or, false, Some, None, IsOk, IfOk, OnOk, OnErr, ℕ, Bool};
 ghost use Rattle.std.specs.Hash as fed;
 ghost use Rattle.std.specs.Cmp.Rules.{hashing};
 ghost use Rattle.std.specs.List.{IsDistinct};
+ghost use Rattle.indexmap.specs.IndexMap.{spare};
 ghost use Rattle.std.proofs.Common.{rules};
-ghost use Rattle.tp_store.specs.Nodes.{edge_number, bare_node, edges_in, nodes_in, child, same_edge, node_from, routes, path_of, way_of, shape_among, shape_found, item_shape, lacks_way, lacks_path, with_node, with_shape_at, facts_in_tree, IsTree, HasMoreNodes, IsRaised, AreWays, KeepsAll};
+ghost use Rattle.tp_store.specs.Nodes.{edge_number, bare_node, edges_in, nodes_in, child, same_edge, node_from, routes, path_of, way_of, shape_among, shape_found, beyond_among, item_shape, lacks_way, lacks_path, with_node, with_shape_at, facts_in_tree, route_to, index_behind, IsTree, HasMoreNodes, IsRaised, AreWays, ArePlaced, KeepsAll};
+ghost use Rattle.tp_store.specs.Facts.{fact};
 
 use crate::clash::lacks_item;
 use indexmap::IndexMap;
@@ -38,17 +40,15 @@ pub struct Node {
     pub beyond: u64,
 }
 
-// Makes the list reach past that number; what stands in it stays.
-fn reach(places: &mut Vec<u64>, number: u64) -> Result<(), NoMemory>
+// Makes the list so long, where it isn't; what stands in it stays.
+fn lengthen(places: &mut Vec<u64>, count: u64) -> Result<(), NoMemory>
     ensures kept { (k p : ℕ) → slice_get places.old.items k ≡ Some p
         → slice_get places.new.items k ≡ Some p }
-    ensures ok { OnOk result (number < length places.new.items) }
+    ensures more { length places.old.items ≤ length places.new.items }
+    ensures ok { OnOk result (count ≤ length places.new.items) }
 {
-    let Some(length) = number.checked_add(1) else {
-        return Err(NoMemory);
-    };
-    if places.len() < length as usize {
-        places.resize(length as usize, 0)?;
+    if places.len() < count as usize {
+        places.resize(count as usize, 0)?;
     }
     Ok(())
 }
@@ -59,7 +59,8 @@ fn reach(places: &mut Vec<u64>, number: u64) -> Result<(), NoMemory>
 pub struct Nodes {
     below: IndexMap<Edge, Node>,
     // For each variable, by its number, the place of the edge that leads to its node, where it has one. Where the edge there is another
-    // one, it has none; so the node of a variable is found without a look by its edge, and a place may stay that is past.
+    // one, it has none; so the node of a variable is found without a look by its edge, and a place may stay that is past. The list is as
+    // long as there are variables, so that a node of each can be made where there is room for nodes alone.
     places: Vec<u64>,
 }
 
@@ -110,6 +111,16 @@ impl Nodes {
         match self.node(number) {
             Some(node) => node.shape,
             None => None,
+        }
+    }
+
+    /// A number that the indices of the children of the node with that number are less than.
+    pub fn bound(&self, number: u64) -> u64
+        ensures { result ≡ beyond_among (nodes_in self.now) number }
+    {
+        match self.node(number) {
+            Some(node) => node.beyond,
+            None => 0,
         }
     }
 
@@ -243,6 +254,31 @@ impl Nodes {
         }
     }
 
+    /// Has a place for each variable with a lesser number.
+    pub fn place(&mut self, count: u64) -> Result<(), NoMemory>
+        requires { IsTree self.old }
+        ensures tree { IsTree self.new }
+        ensures below { self.new.below ≡ self.old.below }
+        ensures more { length self.old.places.items ≤ length self.new.places.items }
+        ensures ok { OnOk result (count ≤ length self.new.places.items) }
+    {
+        lengthen(&mut self.places, count)
+    }
+
+    /// Makes room for so many more nodes.
+    pub fn reserve(&mut self, count: usize) -> Result<(), NoMemory>
+        requires { IsTree self.old }
+        ensures tree { IsTree self.new }
+        ensures edges { edges_in self.new ≡ edges_in self.old }
+        ensures nodes { nodes_in self.new ≡ nodes_in self.old }
+        ensures places { self.new.places.items ≡ self.old.places.items }
+        ensures room { spare self.old.below ≤ spare self.new.below }
+        ensures ok { OnOk result (count ≤ spare self.new.below) }
+    {
+        self.below.reserve(count)?;
+        Ok(())
+    }
+
     // Leads to the child of a node with that index of an item, which is made where it isn't there yet.
     fn lead(&mut self, node: u64, index: u64) -> Result<u64, NoMemory>
         requires tree { IsTree self.old }
@@ -251,6 +287,8 @@ impl Nodes {
         requires narrow { index < 2 ^ 32 }
         ensures tree { IsTree self.new }
         ensures more { HasMoreNodes self.old self.new }
+        ensures room { spare self.old.below ≤ spare self.new.below + 1 }
+        ensures succeeds { 0 < spare self.old.below → IsOk result }
         ensures unique { IfOk result (λ n. IsDistinct same_edge (edges_in self.new)) }
         ensures within { IfOk result (λ n. n < length (nodes_in self.new)) }
         ensures child { IfOk result (λ n. child (edges_in self.new) node index ≡ Some n) }
@@ -265,9 +303,12 @@ impl Nodes {
 
     // Leads to the node of the variable with that number, which is made where it isn't there yet.
     fn lead_root(&mut self, number: u64) -> Result<u64, NoMemory>
-        requires { IsTree self.old }
+        requires tree { IsTree self.old }
+        requires placed { number < length self.old.places.items }
         ensures tree { IsTree self.new }
         ensures more { HasMoreNodes self.old self.new }
+        ensures room { spare self.old.below ≤ spare self.new.below + 1 }
+        ensures succeeds { 0 < spare self.old.below → IsOk result }
         ensures unique { IfOk result (λ n. IsDistinct same_edge (edges_in self.new)) }
         ensures within { IfOk result (λ n. n < length (nodes_in self.new)) }
         ensures child { IfOk result (λ n. child (edges_in self.new) 0 number ≡ Some n) }
@@ -276,7 +317,6 @@ impl Nodes {
         if let Some(found) = self.root(number) {
             return Ok(found);
         }
-        reach(&mut self.places, number)?;
         let edge = Edge {
             node: 0,
             index: number,
@@ -287,11 +327,14 @@ impl Nodes {
         Ok(count)
     }
 
-    // Leads to the node of the path; the nodes that aren't there yet are made.
-    fn make_way(&mut self, path: &Path) -> Result<u64, NoMemory>
-        requires { IsTree self.old }
+    /// Leads to the node of the path; the nodes that aren't there yet are made.
+    pub fn make_way(&mut self, path: &Path) -> Result<u64, NoMemory>
+        requires tree { IsTree self.old }
+        requires placed { path.now.var.number < length self.old.places.items }
         ensures tree { IsTree self.new }
         ensures more { HasMoreNodes self.old self.new }
+        ensures room { spare self.old.below ≤ spare self.new.below + suc (length path.now.at) }
+        ensures succeeds { length path.now.at < spare self.old.below → IsOk result }
         ensures unique { IfOk result (λ n. IsDistinct same_edge (edges_in self.new)) }
         ensures way { IfOk result (λ n.
             node_from (edges_in self.new) (way_of path.now) 0 ≡ Some n) }
@@ -303,9 +346,10 @@ impl Nodes {
         Ok(node)
     }
 
-    // Leads to the nodes of these facts.
-    fn make_ways(&mut self, alloc: Global, facts: &[Fact]) -> Result<Vec<u64>, NoMemory>
-        requires { IsTree self.old }
+    /// Leads to the nodes of these facts.
+    pub fn make_ways(&mut self, alloc: Global, facts: &[Fact]) -> Result<Vec<u64>, NoMemory>
+        requires tree { IsTree self.old }
+        requires placed { ArePlaced (length self.old.places.items) facts.now }
         ensures tree { IsTree self.new }
         ensures more { HasMoreNodes self.old self.new }
         ensures ways { IfOk result (λ ns. AreWays (edges_in self.new) facts.now ns.items) }
@@ -318,12 +362,13 @@ impl Nodes {
         Ok(ways)
     }
 
-    // Keeps the shape at the node with that number, which isn't the root.
-    fn keep(&mut self, number: u64, shape: Shape)
+    /// Keeps the shape at the node with that number, which isn't the root.
+    pub fn keep(&mut self, number: u64, shape: Shape)
         requires below { 0 < number }
         requires within { number < length (nodes_in self.old) }
         ensures edges { edges_in self.new ≡ edges_in self.old }
         ensures places { self.new.places.items ≡ self.old.places.items }
+        ensures room { spare self.new.below ≡ spare self.old.below }
         ensures nodes { nodes_in self.new ≡ with_shape_at (nodes_in self.old) number shape }
     {
         if let Some(kept) = self.below.get_index_mut((number - 1) as usize) {
@@ -335,6 +380,8 @@ impl Nodes {
     pub fn clear(&mut self)
         ensures edges { edges_in self.new ≡ [] }
         ensures nodes { nodes_in self.new ≡ bare_node ∷ [] }
+        ensures places { self.new.places.items ≡ self.old.places.items }
+        ensures room { spare self.old.below ≤ spare self.new.below }
     {
         self.below.clear();
     }
@@ -353,6 +400,24 @@ impl Nodes {
             unreachable!();
         };
         *edge
+    }
+
+    /// The index that follows the way of the first node in that of the second, where this one goes on from there; neither is the root.
+    pub fn index_after(&self, first: u64, second: u64) -> Option<u64>
+        requires tree { IsTree self.now }
+        requires below { (0 < first) × (0 < second) }
+        requires within { (first < length (nodes_in self.now)) × (second < length (nodes_in self.now)) }
+        ensures { result ≡ index_behind (route_to self.now first) (route_to self.now second) }
+    {
+        let _count = self.count();
+        let edge = self.edge_to(second);
+        if edge.node == first {
+            return Some(edge.index);
+        }
+        if edge.node == 0 {
+            return None;
+        }
+        self.index_after(first, edge.node)
     }
 
     /// The number of the variable of whose value the node with that number, which isn't the root, is a part.
@@ -393,34 +458,4 @@ impl Nodes {
         path.at.items.push(index as u32)?;
         Ok(path)
     }
-}
-
-// Keeps the shapes of these facts at the nodes to which their paths lead.
-fn keep_all(nodes: &mut Nodes, ways: &[u64], facts: &[Fact])
-    requires tree { IsTree nodes.old }
-    requires ways { AreWays (edges_in nodes.old) facts.now ways.now }
-    ensures tree { IsTree nodes.new }
-    ensures kept { KeepsAll nodes.old facts.now nodes.new }
-{
-    let _count = nodes.count();
-    for i in 0..facts.len() {
-        nodes.keep(ways[i], facts[i].shape);
-    }
-}
-
-/// Keeps these facts, or none where memory ends: first all nodes are made, then shapes are written, which can't fail.
-pub fn keep_facts(nodes: &mut Nodes, alloc: Global, facts: &[Fact]) -> Result<(), NoMemory>
-    requires { IsTree nodes.old }
-    ensures tree { IsTree nodes.new }
-    ensures ok { OnOk result (KeepsAll nodes.old facts.now nodes.new) }
-    ensures err { OnErr result (HasMoreNodes nodes.old nodes.new) }
-{
-    if let [fact] = facts {
-        let way = nodes.make_way(&fact.path)?;
-        keep_all(nodes, &[way], facts);
-        return Ok(());
-    }
-    let ways = nodes.make_ways(alloc, facts)?;
-    keep_all(nodes, ways.as_slice(), facts);
-    Ok(())
 }

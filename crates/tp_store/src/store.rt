@@ -1,8 +1,9 @@
 // What is known of a state.
-ghost use Rattle.std.specs.Prelude.{◌≡◌, ◌++◌, ◌∷◌, [], length, IfOk, OnOk, OnErr};
+ghost use Rattle.std.specs.Prelude.{◌≡◌, ◌≤◌, ◌++◌, ◌∷◌, [], length, suc, IfOk, OnOk, OnErr};
 ghost use Rattle.std.specs.Option.{option_copied};
 ghost use Rattle.tp_store.specs.Facts.{kept_shape, is_excluded};
 ghost use Rattle.tp_store.specs.Known.{new_store, name_of, lasting_facts, facts_below};
+ghost use Rattle.tp_store.specs.Stock.{contents_in};
 ghost use Rattle.tp_store.specs.Changes.{IsSoundStore, HaveSameShapes, HasAppended};
 ghost use Rattle.tp_store.specs.Entries.{part_by_kind};
 
@@ -27,13 +28,15 @@ pub struct Store {
 }
 
 impl Model for Store {
-    ghost use Rattle.tp_store.specs.Known.{Contents};
+    ghost use Rattle.std.specs.Prelude.{◌-◌, vec_len, vec_capacity};
+    ghost use Rattle.tp_store.specs.Stock.{Stock};
 
-    ghost Value = { Contents };
+    ghost Value = { Stock };
 
-    ghost use Rattle.tp_store.specs.Entries.{contents_of, AreParts};
+    ghost use Rattle.tp_store.specs.Entries.{stock_of, AreParts};
 
-    ghost view = { λ s. contents_of s.entries.items s.state s.fixed };
+    ghost view = { λ s.
+        stock_of s.entries.items (vec_capacity s.entries - vec_len s.entries) s.state s.fixed };
 
     ghost invariant = { λ s. AreParts s.entries.items s.state s.fixed };
 }
@@ -45,24 +48,37 @@ pub fn part<'a>(state: &'a FactMap, fixed: &'a FactMap, lasting: bool) -> &'a Fa
     if lasting { fixed } else { state }
 }
 
+// No facts of this kind, and a place for each of so many variables.
+fn placed_facts(alloc: Global, lasting: bool, count: u64) -> Result<FactMap, NoMemory>
+    ensures kind { IfOk result (λ facts. facts.lasting ≡ lasting) }
+    ensures facts { IfOk result (λ facts. facts.facts ≡ []) }
+    ensures placed { IfOk result (λ facts. count ≤ facts.placed) }
+{
+    let mut facts = FactMap::new(alloc, lasting);
+    facts.place(count)?;
+    Ok(facts)
+}
+
 impl Store {
     /// No facts, and the globals as variables.
     pub fn new(alloc: Global, globals: &Globals) -> Result<Store, NoMemory>
-        ensures { IfOk result (λ store. store ≡ new_store globals.now) }
+        ensures { IfOk result (λ store. contents_in store ≡ new_store globals.now) }
     {
         let entries = global_entries(alloc, globals)?;
+        let state = placed_facts(alloc, false, entries.len() as u64)?;
+        let fixed = placed_facts(alloc, true, entries.len() as u64)?;
         Ok(Store {
             alloc,
             entries,
-            state: FactMap::new(alloc, false),
-            fixed: FactMap::new(alloc, true),
+            state,
+            fixed,
         })
     }
 
     /// The shape that is kept for the path.
     pub fn shape(&self, path: &Path) -> Option<Shape>
         ensures value { result ≡ kept_shape self.now.facts path.now }
-        ensures sound { IsSoundStore self.now }
+        ensures sound { IsSoundStore (contents_in self.now) }
     {
         part(&self.state, &self.fixed, path.var.lasting).shape(path)
     }
@@ -70,7 +86,7 @@ impl Store {
     /// Whether the path has no element: the shape that is kept for a proper prefix of it leaves none.
     pub fn excludes(&self, path: &Path) -> bool
         ensures value { result ≡ is_excluded self.now.facts path.now }
-        ensures sound { IsSoundStore self.now }
+        ensures sound { IsSoundStore (contents_in self.now) }
     {
         part(&self.state, &self.fixed, path.var.lasting).excludes(path)
     }
@@ -78,7 +94,7 @@ impl Store {
     /// How many variables there are: the number of the next new one.
     pub fn count(&self) -> u64
         ensures number { result ≡ length self.now.variables }
-        ensures sound { IsSoundStore self.now }
+        ensures sound { IsSoundStore (contents_in self.now) }
     {
         self.entries.len() as u64
     }
@@ -91,11 +107,15 @@ impl Store {
             (self.new.variables
             ≡ self.old.variables ++ record { name = name.now; lasting = lasting } ∷ []) }
         ensures facts { HaveSameShapes self.new.facts self.old.facts }
-        ensures err { OnErr result (self.new ≡ self.old) }
-        ensures sound { IsSoundStore self.new }
+        ensures room { self.new.spare_facts ≡ self.old.spare_facts }
+        ensures names { self.old.spare_names ≤ suc self.new.spare_names }
+        ensures err { OnErr result (contents_in self.new ≡ contents_in self.old) }
+        ensures sound { IsSoundStore (contents_in self.new) }
     {
         let number = self.entries.len() as u64;
         let name = name.copy()?;
+        self.state.place(number + 1)?;
+        self.fixed.place(number + 1)?;
         self.entries.push(Entry { name, lasting })?;
         Ok(VarId { number, lasting })
     }
@@ -111,7 +131,7 @@ impl Store {
     pub fn facts(&self, below: u64, out: &mut Facts) -> Result<(), NoMemory>
         ensures ok { OnOk result (HasAppended (facts_below below self.now.facts) out.old out.new) }
         ensures err { OnErr result (out.new ≡ out.old) }
-        ensures sound { IsSoundStore self.now }
+        ensures sound { IsSoundStore (contents_in self.now) }
     {
         let mut copies = Vec::new(self.alloc);
         self.state
@@ -130,7 +150,9 @@ impl Store {
     pub fn next_state(&mut self)
         ensures facts { HaveSameShapes self.new.facts (lasting_facts self.old.facts) }
         ensures variables { self.new.variables ≡ self.old.variables }
-        ensures sound { IsSoundStore self.new }
+        ensures room { self.old.spare_facts ≤ self.new.spare_facts }
+        ensures names { self.new.spare_names ≡ self.old.spare_names }
+        ensures sound { IsSoundStore (contents_in self.new) }
     {
         self.state.clear();
     }

@@ -5,7 +5,8 @@ use Rattle.std.proofs.lemmas.Option.{slice_get_cases}
 use Rattle.tp_value.specs.declared.path.Path.{Path}
 use Rattle.tp_value.specs.declared.path.Fact.{Fact}
 use Rattle.tp_store.specs.Facts.{same_path, kept_shape}
-use Rattle.tp_store.specs.Known.{NoClash, Contents}
+use Rattle.tp_store.specs.Known.{NoClash}
+use Rattle.tp_store.specs.Stock.{Stock}
 use Rattle.tp_store.specs.Changes.{HaveSameShapes}
 use Rattle.tp_store.proofs.Paths.{same_path-decides, same_path-sym}
 use Rattle.tp_eval.specs.Outcome.{outcome}
@@ -39,11 +40,11 @@ once_kept (f ∷ fs) p = by (once_kept fs p) (same_path f.path p) refl
         (λ g s. ap not (ap (λ q. same_path q f.path) ((same_path-decides g.path p).0 s) ∙ same_path-sym p f.path ∙ e)) ∙ rest
 
 -- what is known of a state is kept
-abbrev pub IsKept : FactsOfStates → List Fact → Contents → Type 0
+abbrev pub IsKept : FactsOfStates → List Fact → Stock → Type 0
 IsKept trace own state = NoClash state.facts × HaveSameShapes state.facts (known_with trace own)
 
-module _ (trace : FactsOfStates) (states : List Contents) (whole : is_torn trace ≡ false) (many : length states ≡ length trace)
-    (kept : (i : ℕ) (own : List Fact) (state : Contents) → slice_get trace i ≡ Some own → slice_get states i ≡ Some state → IsKept trace own state) where
+module _ (trace : FactsOfStates) (states : List Stock) (whole : is_torn trace ≡ false) (many : length states ≡ length trace)
+    (kept : (i : ℕ) (own : List Fact) (state : Stock) → slice_get trace i ≡ Some own → slice_get states i ≡ Some state → IsKept trace own state) where
   same_found : (i : ℕ) → i < length trace → known_outcome trace i ≡ found_in states i
   same_found i l = elim (slice_get_cases trace i).1 [
     | inl x ↦ elim (slice_get_cases states i).1 [

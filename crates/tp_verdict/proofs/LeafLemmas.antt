@@ -3,7 +3,7 @@ use Rattle.std.proofs.Common.{◌≡◌, ℕ, zero, suc, ◌+◌, ◌-◌, ◌<�
 use Rattle.std.proofs.lemmas.Bool.{le-leb, leb-true}
 use Rattle.tp_value.specs.Tree.{Tree, num, truth}
 use Rattle.tp_meaning.specs.Syntax.{ExprTree}
-use Rattle.tp_store.specs.Known.{Contents}
+use Rattle.tp_store.specs.Stock.{Stock}
 use Rattle.tp_eval.specs.Outcome as found
 use Rattle.tp_eval.specs.Answers.{outcome_tree}
 use Rattle.tp_eval.specs.declared.outcome.Outcome.{Outcome}
@@ -21,10 +21,10 @@ use Rattle.tp_verdict.proofs.KindLemmas.{parts_as, if_same}
 use Rattle.tp_verdict.proofs.LoopLemmas.{looped_same}
 
 -- the outcomes of an expression in each state
-abbrev pub AreOutcomes : ExprTree → List Contents → List Outcome → Type 0
+abbrev pub AreOutcomes : ExprTree → List Stock → List Outcome → Type 0
 AreOutcomes e states os = map outcome_tree os ≡ map (λ state. found.outcome state.facts [] e []) states
 
-outcome_there : (e : ExprTree) (states : List Contents) (os : List Outcome) → AreOutcomes e states os → (i : ℕ) → i < length states
+outcome_there : (e : ExprTree) (states : List Stock) (os : List Outcome) → AreOutcomes e states os → (i : ℕ) → i < length states
     → (o : Outcome) × (slice_get os i ≡ Some o) × (outcome_tree o ≡ found_in states i e)
 outcome_there e [] os h i l = absurd (omega (arith, l))
 outcome_there e (s ∷ ss) [] h i l = absurd (cc)
@@ -38,19 +38,19 @@ listed_there t (x ∷ xs) [] h i o e = absurd (cc)
 listed_there t (x ∷ xs) (v ∷ vs) h zero o e = let q : x ≡ o = cc in let p : verdict_of v ≡ value_verdict (outcome_tree x) t = cc in p ∙ ap (λ y. value_verdict (outcome_tree y) t) q
 listed_there t (x ∷ xs) (v ∷ vs) h (suc i) o e = listed_there t xs vs (cc) i o e
 
-pub listed_is : (e : ExprTree) (t : Tree) (states : List Contents) (os : List Outcome) (vs : List Verdict) → AreOutcomes e states os
+pub listed_is : (e : ExprTree) (t : Tree) (states : List Stock) (os : List Outcome) (vs : List Verdict) → AreOutcomes e states os
     → map verdict_of vs ≡ map (λ o. value_verdict (outcome_tree o) t) os → (i : ℕ) → i < length states → verdict_listed vs i ≡ value_verdict (found_in states i e) t
 listed_is e t states os vs h k i l =
     let r = outcome_there e states os h i l in
     listed_there t os vs k i r.0 r.1 ∙ ap (λ o. value_verdict o t) r.2
 
-pub counted_is : (e : ExprTree) (states : List Contents) (os : List Outcome) → AreOutcomes e states os → (i n : ℕ) → i < length states
+pub counted_is : (e : ExprTree) (states : List Stock) (os : List Outcome) → AreOutcomes e states os → (i n : ℕ) → i < length states
     → length_verdict os i n ≡ value_verdict (found_in states i e) (num (pos n))
 counted_is e states os h i n l =
     let r = outcome_there e states os h i l in
     ap (or_no (λ (o : Outcome). value_verdict (outcome_tree o) (num (pos n)))) r.1 ∙ ap (λ o. value_verdict o (num (pos n))) r.2
 
-pub paired_is : (t e : ExprTree) (states : List Contents) (ts es : List Outcome) → AreOutcomes t states ts → AreOutcomes e states es
+pub paired_is : (t e : ExprTree) (states : List Stock) (ts es : List Outcome) → AreOutcomes t states ts → AreOutcomes e states es
     → (i j : ℕ) → i < length states → j < length states → paired ts es i j ≡ equality_verdict (found_in states j t) (found_in states i e)
 paired_is t e states ts es h k i j l m =
     let q = outcome_there t states ts h j m in
@@ -73,7 +73,7 @@ listed_more f (x ∷ xs) v (suc k) m h before (suc i) l =
 within : (a b : ℕ) (x y : told.Verdict) → a ≤ b → (if nat_le a b then x else y) ≡ x
 within a b x y h = let e : nat_le a b ≡ true = le-leb a b h in rw e refl
 
-module _ (states : List Contents) (rows : List VerdictRow) (n : length rows ≡ length states) where
+module _ (states : List Stock) (rows : List VerdictRow) (n : length rows ≡ length states) where
   abbrev At : WideTree → Type 0
   At w = HaveVerdicts (verdict (found_in states) w) rows
 
@@ -104,13 +104,13 @@ module _ (states : List Contents) (rows : List VerdictRow) (n : length rows ≡ 
   assign_kind t e ts es p q h = parts_as (λ i j. paired ts es i j) (verdict (found_in states) (assign t e)) rows h
       (λ i j l d. paired_is t e states ts es p q i j (omega (arith, l, d, n)) (omega (arith, d, n)))
 
-pub outcomes_length : (e : ExprTree) (states : List Contents) (os : List Outcome) → AreOutcomes e states os → length os ≡ length states
+pub outcomes_length : (e : ExprTree) (states : List Stock) (os : List Outcome) → AreOutcomes e states os → length os ≡ length states
 outcomes_length e [] [] h = refl
 outcomes_length e [] (o ∷ os) h = absurd (cc)
 outcomes_length e (s ∷ ss) [] h = absurd (cc)
 outcomes_length e (s ∷ ss) (o ∷ os) h = let r = outcomes_length e ss os (cc) in omega (arith, r)
 
-module _ (states : List Contents) (rows : List VerdictRow) (n : length rows ≡ length states) where
+module _ (states : List Stock) (rows : List VerdictRow) (n : length rows ≡ length states) where
   pub branch_kind : (e : ExprTree) (w v : WideTree) (ts fs : List Verdict) (first second : List VerdictRow) → length first ≡ length states → length second ≡ length states
       → ((i : ℕ) → i < length states → verdict_listed ts i ≡ value_verdict (found_in states i e) (truth true))
       → ((i : ℕ) → i < length states → verdict_listed fs i ≡ value_verdict (found_in states i e) (truth false))

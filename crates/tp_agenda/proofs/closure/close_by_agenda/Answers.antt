@@ -1,5 +1,6 @@
 -- The closure begins where the scene remembers more, at the same moment.
 use Rattle.std.proofs.lemmas.Result.{IfOk-weaker}
+use Rattle.tp_store.specs.Stock.{contents_in}
 use Rattle.tp_decide.specs.Decided.{setting_of}
 use Rattle.tp_step.specs.Answers.{moment_of}
 use Rattle.tp_step.proofs.Picks.{on_refusal, made_none}
@@ -8,7 +9,7 @@ use Rattle.tp_agenda.proofs.closure.close_by_agenda.Goals as goal
 pub returns-in_err-board-clause-err : goal.returns-in_err-board-clause-err
 returns-in_err-board-clause-err g c =
     let room = c.args.course.room in
-    on_refusal c.from_residual.result (rw c.begin.ensures.same (room, made_none (setting_of c.args.setting.now) (moment_of c.args.scene.now c.args.store.now) room c.args.tally.now.picks))
+    on_refusal c.from_residual.result (rw c.begin.ensures.same (room, made_none (setting_of c.args.setting.now) (moment_of c.args.scene.now (contents_in c.args.store.now)) room c.args.tally.now.picks))
 
 pub returns-clause-sound : goal.returns-clause-sound
 returns-clause-sound g c = IfOk-weaker c.try_ready.result _ _ (λ ending all. all.sound) (rw c.begin.ensures.same at c.try_ready.ensures.closes)

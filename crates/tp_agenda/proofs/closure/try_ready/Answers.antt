@@ -1,6 +1,7 @@
 -- Each ready item is tried in its turn.
 use Rattle.std.proofs.Common.{◌≡◌, ◌<◌, ℕ, List, [], ◌∷◌, ◌++◌, length, refl, ap, sym, ◌∙◌, subst}
 use Rattle.std.specs.List.{All}
+use Rattle.tp_store.specs.Stock.{contents_in}
 use Rattle.tp_decide.specs.Decided.{setting_of}
 use Rattle.tp_step.specs.declared.answer.Tally.{Tally}
 use Rattle.tp_step.specs.declared.answer.Waits.{Waits}
@@ -21,7 +22,7 @@ use Rattle.tp_agenda.proofs.closure.try_ready.Goals as goal
 pub tries-init : goal.tries-init
 tries-init g c =
     let w = setting_of c.args.setting.now in
-    let m = moment_of c.args.scene.now c.args.store.now in
+    let m = moment_of c.args.scene.now (contents_in c.args.store.now) in
     let agenda = c.args.agenda.now in
     let tally = c.args.tally.now in
     let over = agenda.board.over.items in
@@ -41,18 +42,18 @@ pub try_item-requires-clause-lives : goal.try_item-requires-clause-lives
 try_item-requires-clause-lives g c =
     let tally = c.tries.tally in
     let inv = c.tries.invariant in
-    turn_lives (setting_of c.args.setting.now) (moment_of c.args.scene.now c.args.store.now) (moment_of c.tries.scene c.tries.store) _ _ c.next.new.order _ _ _ _ tally.waits.items.items tally.rests _ _
+    turn_lives (setting_of c.args.setting.now) (moment_of c.args.scene.now (contents_in c.args.store.now)) (moment_of c.tries.scene (contents_in c.tries.store)) _ _ c.next.new.order _ _ _ _ tally.waits.items.items tally.rests _ _
     inv.so_far c.tries.agenda.board c.next.new.self inv.held c.in-Some.item (c.in-Some.ensures.some c.in-Some.item refl) (c.in-Some.ensures.taken c.in-Some.item refl)
 
 pub try_item-requires-clause-sound : goal.try_item-requires-clause-sound
 try_item-requires-clause-sound g c =
     let sound = c.requires.sound in
     let tally = c.tries.tally in
-    (sound.0, agenda_sound (setting_of c.args.setting.now) (moment_of c.args.scene.now c.args.store.now) (moment_of c.tries.scene c.tries.store) _ _ _ _ _ _ tally.waits.items.items tally.rests _ _ c.tries.invariant.so_far sound.0 sound.1)
+    (sound.0, agenda_sound (setting_of c.args.setting.now) (moment_of c.args.scene.now (contents_in c.args.store.now)) (moment_of c.tries.scene (contents_in c.tries.store)) _ _ _ _ _ _ tally.waits.items.items tally.rests _ _ c.tries.invariant.so_far sound.0 sound.1)
 
 pub count_pick-requires : goal.count_pick-requires
 count_pick-requires g c = record {
-  left = picks_have_room (setting_of c.args.setting.now) c.in-Some.item c.tries.agenda.course.room (moment_of c.tries.scene c.tries.store) (moment_of c.try_item.new.scene c.try_item.new.store) c.in-Ok.tried c.in-Ok.ensures.answer;
+  left = picks_have_room (setting_of c.args.setting.now) c.in-Some.item c.tries.agenda.course.room (moment_of c.tries.scene (contents_in c.tries.store)) (moment_of c.try_item.new.scene (contents_in c.try_item.new.store)) c.in-Ok.tried c.in-Ok.ensures.answer;
 }
 
 -- the waits are those that there were
@@ -70,7 +71,7 @@ take_in-requires-clause-below g c =
     let board = c.tries.agenda.board in
     let taken = c.next.new.self in
     subst (λ (xs : List Wait). All (λ (x : Wait). x.item < length taken.ready) xs) (sym (same_waits g (goal.at.take_in-requires-clause-below g c).After-count_pick))
-    (waits_below (setting_of c.args.setting.now) (moment_of c.tries.scene c.tries.store) c.tries.tally.waits.items.items c.tries.tally.rests board.over.items board.ready c.tries.invariant.held (length taken.ready)
+    (waits_below (setting_of c.args.setting.now) (moment_of c.tries.scene (contents_in c.tries.store)) c.tries.tally.waits.items.items c.tries.tally.rests board.over.items board.ready c.tries.invariant.held (length taken.ready)
     (same_size board taken c.in-Some.item (c.in-Some.ensures.taken c.in-Some.item refl)))
 
 pub take_in-requires-clause-near : goal.take_in-requires-clause-near
@@ -82,33 +83,33 @@ take_in-requires-clause-near g c =
     let taken = c.next.new.self in
     let sound = c.requires.sound in
     let item = c.in-Some.item in
-    let here = moment_of c.tries.scene c.tries.store in
+    let here = moment_of c.tries.scene (contents_in c.tries.store) in
     let without = c.in-Some.ensures.taken item refl in
-    let sound_here = agenda_sound w (moment_of c.args.scene.now c.args.store.now) here _ _ _ _ _ _ tally.waits.items.items tally.rests _ _ inv.so_far sound.0 sound.1 in
-    let lives = turn_lives w (moment_of c.args.scene.now c.args.store.now) here _ _ c.next.new.order _ _ _ _ tally.waits.items.items tally.rests _ _
+    let sound_here = agenda_sound w (moment_of c.args.scene.now (contents_in c.args.store.now)) here _ _ _ _ _ _ tally.waits.items.items tally.rests _ _ inv.so_far sound.0 sound.1 in
+    let lives = turn_lives w (moment_of c.args.scene.now (contents_in c.args.store.now)) here _ _ c.next.new.order _ _ _ _ tally.waits.items.items tally.rests _ _
     inv.so_far board taken inv.held item (c.in-Some.ensures.some item refl) (c.in-Some.ensures.taken item refl) in
     subst (λ (xs : List Wait). NewsAreNear c.try_item.new.scene c.in-Ok.tried taken xs) (sym (same_waits g (goal.at.take_in-requires-clause-near g c).After-count_pick))
-    (news_near w sound.0 c.tries.scene c.try_item.new.scene c.tries.store c.try_item.new.store item sound_here inv.kept c.try_item.ensures.kept lives c.tries.agenda.course.room
+    (news_near w sound.0 c.tries.scene c.try_item.new.scene (contents_in c.tries.store) (contents_in c.try_item.new.store) item sound_here inv.kept c.try_item.ensures.kept lives c.tries.agenda.course.room
     tally.waits.items.items tally.rests board taken inv.held inv.taken (ap (λ (b : Board). b.over) without) (ap (λ (b : Board). b.taken) without) c.in-Ok.tried c.in-Ok.ensures.answer)
 
 -- the picks that were made, and what comes of the last try
-made : (g : Over) (c : After-take_in g) → Made (setting_of c.args.setting.now) (moment_of c.args.scene.now c.args.store.now) (moment_of c.try_item.new.scene c.try_item.new.store)
+made : (g : Over) (c : After-take_in g) → Made (setting_of c.args.setting.now) (moment_of c.args.scene.now (contents_in c.args.store.now)) (moment_of c.try_item.new.scene (contents_in c.try_item.new.store))
     c.args.agenda.now.course.room c.count_pick.new.left c.args.tally.now.picks c.take_in.new.tally.picks
 made g c =
     let w = setting_of c.args.setting.now in
-    let first = moment_of c.args.scene.now c.args.store.now in
-    let next = moment_of c.try_item.new.scene c.try_item.new.store in
+    let first = moment_of c.args.scene.now (contents_in c.args.store.now) in
+    let next = moment_of c.try_item.new.scene (contents_in c.try_item.new.store) in
     subst (λ xs. Made w first next c.args.agenda.now.course.room c.count_pick.new.left c.args.tally.now.picks xs) (sym c.take_in.ensures.picks)
-    (tried_made w first (moment_of c.tries.scene c.tries.store) next c.in-Some.item _ _ _ _ c.tries.tally.picks _ c.in-Ok.tried c.tries.invariant.made c.in-Ok.ensures.answer (c.count_pick.ensures.counts c.tries.tally.picks c.in-Some.item (c.in_ok-push.ensures.items ∙ ap (λ (y : Tally). y.picks ++ c.in-Some.item ∷ []) c.tally.view_is)))
+    (tried_made w first (moment_of c.tries.scene (contents_in c.tries.store)) next c.in-Some.item _ _ _ _ c.tries.tally.picks _ c.in-Ok.tried c.tries.invariant.made c.in-Ok.ensures.answer (c.count_pick.ensures.counts c.tries.tally.picks c.in-Some.item (c.in_ok-push.ensures.items ∙ ap (λ (y : Tally). y.picks ++ c.in-Some.item ∷ []) c.tally.view_is)))
 
-came : (g : Over) (c : In_ok-ending g) → ComesOf (setting_of c.args.setting.now) (moment_of c.args.scene.now c.args.store.now) (moment_of c.try_item.new.scene c.try_item.new.store)
+came : (g : Over) (c : In_ok-ending g) → ComesOf (setting_of c.args.setting.now) (moment_of c.args.scene.now (contents_in c.args.store.now)) (moment_of c.try_item.new.scene (contents_in c.try_item.new.store))
     c.args.agenda.now.course.order c.next.new.order c.args.agenda.now.course.room c.tries.agenda.course.room c.count_pick.new.left c.args.tally.now.picks c.take_in.new.tally.picks
     c.take_in.new.tally.waits.items.items c.take_in.new.tally.rests c.args.steps.now c.try_item.new.steps c.tries.agenda.board c.take_in.new.self c.in_ok-ending.field-0
 came g c =
     let w = setting_of c.args.setting.now in
-    let first = moment_of c.args.scene.now c.args.store.now in
-    let here = moment_of c.tries.scene c.tries.store in
-    let next = moment_of c.try_item.new.scene c.try_item.new.store in
+    let first = moment_of c.args.scene.now (contents_in c.args.store.now) in
+    let here = moment_of c.tries.scene (contents_in c.tries.store) in
+    let next = moment_of c.try_item.new.scene (contents_in c.try_item.new.store) in
     let item = c.in-Some.item in
     let tally = c.tries.tally in
     let inv = c.tries.invariant in
@@ -147,5 +148,5 @@ returns-clause-closes g c =
     let tally = c.tries.tally in
     let inv = c.tries.invariant in
     let board = c.tries.agenda.board in
-    rests_with (setting_of c.args.setting.now) (moment_of c.args.scene.now c.args.store.now) (moment_of c.tries.scene c.tries.store) _ _ _ _ _ _ tally.waits.items.items tally.rests _ _
+    rests_with (setting_of c.args.setting.now) (moment_of c.args.scene.now (contents_in c.args.store.now)) (moment_of c.tries.scene (contents_in c.tries.store)) _ _ _ _ _ _ tally.waits.items.items tally.rests _ _
     inv.so_far board.over.items board.ready inv.held c.requires.sound.0 c.requires.sound.1 (c.in_default.ensures.none refl)

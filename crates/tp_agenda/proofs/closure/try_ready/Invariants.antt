@@ -1,4 +1,5 @@
 use Rattle.std.proofs.Common.{◌+◌, ◌*◌, ◌^◌, count_by}
+use Rattle.tp_store.specs.Stock.{contents_in}
 use Rattle.tp_decide.specs.Decided.{setting_of}
 use Rattle.tp_slots.specs.Kept.{IsWellKept}
 use Rattle.tp_step.specs.Answers.{moment_of}
@@ -11,8 +12,8 @@ use Rattle.tp_agenda.proofs.closure.try_ready.Given as goal
 abbrev pub invariant-tries : goal.invariant-tries
 invariant-tries g l =
     let w = setting_of l.setting in
-    let first = moment_of l.initial.scene l.initial.store in
-    let here = moment_of l.scene l.store in
+    let first = moment_of l.initial.scene (contents_in l.initial.store) in
+    let here = moment_of l.scene (contents_in l.store) in
     let recorded = l.tally.waits.items.items in
     record {
       so_far : AgendaSoFar w first here l.initial.agenda.course.order l.agenda.course.order l.initial.agenda.course.room l.agenda.course.room l.initial.tally.picks l.tally.picks recorded l.tally.rests l.initial.steps l.steps;

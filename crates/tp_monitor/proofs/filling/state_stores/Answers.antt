@@ -4,7 +4,7 @@ use Rattle.std.proofs.lemmas.Option.{MatchOption-at_some, slice_get_read}
 use Rattle.std.proofs.lemmas.Slice.Zip.{all_zipped_more}
 use Rattle.tp_value.specs.declared.path.Fact.{Fact}
 use Rattle.tp_meaning.specs.Interval.{kinds_of}
-use Rattle.tp_store.specs.Known.{Contents}
+use Rattle.tp_store.specs.Stock.{Stock}
 use Rattle.tp_verdict.specs.VerdictLaws.{AreOfKinds}
 use Rattle.tp_verdict.proofs.Right.{state_of_kind}
 use Rattle.tp_monitor.specs.Standing.{StandFor, EachStandsFor}
@@ -25,13 +25,13 @@ loop-state-preserved c =
     let lasting : List Fact = c.args.lasting.now in
     let i : ℕ = c.loop-state.state-index in
     let own : List Fact = c.state-item.result in
-    let store : Contents = c.in-Some.store in
+    let store : Stock = c.in-Some.store in
     let inside : i < length states = omega arith in
     let same : c.as_slice.result.now ≡ own = c.as_slice.ensures.value ∙ c.state.view_is in
-    let one : StandFor store.facts (c.as_slice.result.now ++ lasting) = MatchOption-at_some _ (λ (s : Contents). StandFor s.facts (c.as_slice.result.now ++ lasting)) store c.in-Some.is c.in_ok-store.ensures in
+    let one : StandFor store.facts (c.as_slice.result.now ++ lasting) = MatchOption-at_some _ (λ (s : Stock). StandFor s.facts (c.as_slice.result.now ++ lasting)) store c.in-Some.is c.in_ok-store.ensures in
     let stands : StandFor store.facts (own ++ lasting) = subst (λ (fs : List Fact). StandFor store.facts (fs ++ lasting)) same one in
     let more : EachStandsFor (c.loop-state.stores.items ++ store ∷ []) (take i states ++ own ∷ []) lasting =
-    all_zipped_more (λ (s : Contents) (fs : List Fact). StandFor s.facts (fs ++ lasting)) c.loop-state.stores.items (take i states) store own c.loop-state.invariant stands in
+    all_zipped_more (λ (s : Stock) (fs : List Fact). StandFor s.facts (fs ++ lasting)) c.loop-state.stores.items (take i states) store own c.loop-state.invariant stands in
     let longer : take (i + 1) states ≡ take i states ++ own ∷ [] = take_more states i own inside ∙ ap (λ (x : List Fact). take i states ++ x ∷ []) (sym c.state-item.is) in
-    subst (λ (ss : List Contents). EachStandsFor ss (take (i + 1) states) lasting) (sym c.in_ok-push-in-Some.ensures.items)
+    subst (λ (ss : List Stock). EachStandsFor ss (take (i + 1) states) lasting) (sym c.in_ok-push-in-Some.ensures.items)
     (subst (λ (xs : List (List Fact)). EachStandsFor (c.loop-state.stores.items ++ store ∷ []) xs lasting) (sym longer) more)

@@ -3,7 +3,8 @@ use Rattle.std.specs.List.{flat_map}
 use Rattle.std.proofs.lemmas.Option.{MatchOption-at_none, MatchOption-at_some}
 use Rattle.std.proofs.lemmas.Result.{IfOk-weaker}
 use Rattle.tp_meaning.specs.Interval.{kinds_of}
-use Rattle.tp_store.specs.Known.{Contents, lasting_facts}
+use Rattle.tp_store.specs.Known.{lasting_facts}
+use Rattle.tp_store.specs.Stock.{Stock}
 use Rattle.tp_verdict.specs.Code.{verdict_of}
 use Rattle.tp_verdict.specs.Read.{wide_tree}
 use Rattle.tp_verdict.specs.Table.{verdict}
@@ -28,7 +29,7 @@ returns-in-Some c =
     let w = wide_tree c.args.wide.now.formula in
     let told : FactsOfStates = c.args.told.now in
     let each : EachStandsFor c.in-Some.stores.items told c.args.lasting.now = MatchOption-at_some _ _ c.in-Some.stores c.in-Some.is c.in_ok-state_stores.ensures in
-    let given : EachStandsFor c.as_slice.result.now told c.args.lasting.now = subst (λ (ss : List Contents). EachStandsFor ss told c.args.lasting.now) (sym c.as_slice.ensures.value) each in
+    let given : EachStandsFor c.as_slice.result.now told c.args.lasting.now = subst (λ (ss : List Stock). EachStandsFor ss told c.args.lasting.now) (sym c.as_slice.ensures.value) each in
     let whole = whole_with told c.args.lasting.now c.requires.lasting w c.as_slice.result.now c.requires.some given in
     IfOk-weaker c.verdict_on.result
     (λ v. verdict_of v ≡ verdict (found_in c.as_slice.result.now) w 0 (length c.as_slice.result.now - 1))

@@ -1,4 +1,5 @@
 use Rattle.std.proofs.Common.{◌∙◌, refl}
+use Rattle.tp_store.specs.Stock.{contents_in}
 use Rattle.tp_step.specs.declared.ending.Ending.TheVariants.{Rest}
 use Rattle.tp_decide.specs.Decided.{setting_of}
 use Rattle.tp_step.specs.Answers.{moment_of}
@@ -10,7 +11,7 @@ use Rattle.tp_pass.proofs.pass.close_by_passes.Goals as goal
 
 pub passes-init : goal.passes-init
 passes-init g c = record {
-  so_far = closure_begins (setting_of c.args.setting.now) (moment_of c.args.scene.now c.args.store.now) c.args.course.order c.args.course.room c.args.tally.now.picks;
+  so_far = closure_begins (setting_of c.args.setting.now) (moment_of c.args.scene.now (contents_in c.args.store.now)) c.args.course.order c.args.course.room c.args.tally.now.picks;
   kept = c.requires.kept;
   waits = refl;
   rests = refl;
@@ -18,7 +19,7 @@ passes-init g c = record {
 
 pub passes-preserved : goal.passes-preserved
 passes-preserved g c = record {
-  so_far = closure_goes_on (setting_of c.args.setting.now) (moment_of c.args.scene.now c.args.store.now) (moment_of c.passes.scene c.passes.store) (moment_of c.pass.new.scene c.pass.new.store)
+  so_far = closure_goes_on (setting_of c.args.setting.now) (moment_of c.args.scene.now (contents_in c.args.store.now)) (moment_of c.passes.scene (contents_in c.passes.store)) (moment_of c.pass.new.scene (contents_in c.pass.new.store))
       _ _ _ _ _ _ _ _ _ c.passes.invariant.so_far c.in_ok-ending.field-0 c.in_ok-ending.ensures.made c.in-None.is c.if-course-before.false;
   kept = c.pass.ensures.kept;
   waits = c.pass.ensures.waits ∙ c.passes.invariant.waits;
@@ -26,12 +27,12 @@ passes-preserved g c = record {
 }
 
 -- all that is promised where a pass ends the closure, and where the last one reduces nothing
-ends_in_pass : (g : Over) (c : In-Some g) → ClosesByPasses (setting_of c.args.setting.now) c.args.course.order c.args.course.room (moment_of c.args.scene.now c.args.store.now) (moment_of c.pass.new.scene c.pass.new.store) c.args.tally.now.picks c.pass.new.tally.picks c.in-Some.ending
-ends_in_pass g c = closed_with (setting_of c.args.setting.now) (moment_of c.args.scene.now c.args.store.now) (moment_of c.passes.scene c.passes.store) (moment_of c.pass.new.scene c.pass.new.store)
+ends_in_pass : (g : Over) (c : In-Some g) → ClosesByPasses (setting_of c.args.setting.now) c.args.course.order c.args.course.room (moment_of c.args.scene.now (contents_in c.args.store.now)) (moment_of c.pass.new.scene (contents_in c.pass.new.store)) c.args.tally.now.picks c.pass.new.tally.picks c.in-Some.ending
+ends_in_pass g c = closed_with (setting_of c.args.setting.now) (moment_of c.args.scene.now (contents_in c.args.store.now)) (moment_of c.passes.scene (contents_in c.passes.store)) (moment_of c.pass.new.scene (contents_in c.pass.new.store))
     _ _ _ _ _ _ _ _ _ c.passes.invariant.so_far c.in_ok-ending.field-0 c.in_ok-ending.ensures.made c.requires.sound.0 c.requires.sound.1 c.in-Some.ending c.in-Some.is
 
-ends_at_rest : (g : Over) (c : Then-course-before g) → ClosesByPasses (setting_of c.args.setting.now) c.args.course.order c.args.course.room (moment_of c.args.scene.now c.args.store.now) (moment_of c.pass.new.scene c.pass.new.store) c.args.tally.now.picks c.pass.new.tally.picks Rest
-ends_at_rest g c = closed_at_rest (setting_of c.args.setting.now) (moment_of c.args.scene.now c.args.store.now) (moment_of c.passes.scene c.passes.store) (moment_of c.pass.new.scene c.pass.new.store)
+ends_at_rest : (g : Over) (c : Then-course-before g) → ClosesByPasses (setting_of c.args.setting.now) c.args.course.order c.args.course.room (moment_of c.args.scene.now (contents_in c.args.store.now)) (moment_of c.pass.new.scene (contents_in c.pass.new.store)) c.args.tally.now.picks c.pass.new.tally.picks Rest
+ends_at_rest g c = closed_at_rest (setting_of c.args.setting.now) (moment_of c.args.scene.now (contents_in c.args.store.now)) (moment_of c.passes.scene (contents_in c.passes.store)) (moment_of c.pass.new.scene (contents_in c.pass.new.store))
     _ _ _ _ _ _ _ _ _ c.passes.invariant.so_far c.in_ok-ending.field-0 c.in_ok-ending.ensures.made c.requires.sound.0 c.requires.sound.1 c.in-None.is c.if-course-before.true
 
 pub returns-in-Some-clause-sound : goal.returns-in-Some-clause-sound
@@ -67,4 +68,4 @@ returns-then-course-before-clause-room g c = (ends_at_rest g (goal.at.returns-th
 pub returns-in_err-ending-clause-err : goal.returns-in_err-ending-clause-err
 returns-in_err-ending-clause-err g c =
     on_refusal c.from_residual.result
-    (c.pass.new.course.room, made_on (setting_of c.args.setting.now) (moment_of c.args.scene.now c.args.store.now) (moment_of c.passes.scene c.passes.store) (moment_of c.pass.new.scene c.pass.new.store) _ _ _ _ _ _ c.passes.invariant.so_far.made c.in_err-ending.ensures.err)
+    (c.pass.new.course.room, made_on (setting_of c.args.setting.now) (moment_of c.args.scene.now (contents_in c.args.store.now)) (moment_of c.passes.scene (contents_in c.passes.store)) (moment_of c.pass.new.scene (contents_in c.pass.new.store)) _ _ _ _ _ _ c.passes.invariant.so_far.made c.in_err-ending.ensures.err)

@@ -1,4 +1,5 @@
 use Rattle.std.proofs.Common.{◌≡◌}
+use Rattle.tp_store.specs.Stock.{contents_in}
 use Rattle.tp_decide.specs.Decided.{setting_of}
 use Rattle.tp_slots.specs.Kept.{IsWellKept}
 use Rattle.tp_step.specs.Answers.{moment_of}
@@ -8,9 +9,9 @@ use Rattle.tp_pass.proofs.pass.pass.Given as goal
 
 abbrev pub invariant-items : goal.invariant-items
 invariant-items g l =
-    let first = moment_of l.initial.scene l.initial.store in
+    let first = moment_of l.initial.scene (contents_in l.initial.store) in
     record {
-      so_far : IsPassing (setting_of l.setting) first (moment_of l.scene l.store) l.initial.sweep l.sweep l.initial.course.room l.course.room l.initial.tally.picks l.tally.picks;
+      so_far : IsPassing (setting_of l.setting) first (moment_of l.scene (contents_in l.store)) l.initial.sweep l.sweep l.initial.course.room l.course.room l.initial.tally.picks l.tally.picks;
       order : l.course.order ≡ l.initial.course.order;
       waits : l.tally.waits ≡ l.initial.tally.waits;
       rests : l.tally.rests ≡ l.initial.tally.rests;

@@ -1,5 +1,6 @@
 -- A new local is bound, and the body stands in the item's place.
 use Rattle.std.proofs.Common.{◌≡◌, ℕ, ◌+◌, ◌<◌, [], length, refl, arith, ap, sym, ◌∙◌, subst, zero-add, Some, None}
+use Rattle.tp_store.specs.Stock.{contents_in}
 use Rattle.tp_scene.specs.Scene as S
 use Rattle.tp_scene.specs.Pick.{scene_after}
 use Rattle.tp_scene.specs.Step.{Reduction}
@@ -19,7 +20,7 @@ pub returns-clause-ok : goal.returns-clause-ok
 returns-clause-ok c =
     let old = c.args.scene.now in
     let new = c.become_bound.new.scene in
-    let k = c.args.store.now in
+    let k = contents_in c.args.store.now in
     let s = scene_of old in
     let name = c.args.local.0 in
     let lasting = c.args.local.1 in
@@ -36,5 +37,5 @@ returns-clause-ok c =
     c.in_ok-items.ensures.scene ∙ ap (λ n. scene_after c.args.item (make n) s) (sym (zero-add s.next_item)) in
     let more : 0 < c.args.room = omega (arith, c.if-room-eq0.false) in
     let o = decided_outcome k.facts (numbers_in k old) (decision.Binds name lasting body) in
-    subst (λ (a : Tried). Carries o c.args.room (moment_of old k) c.args.item (moment_of new c.become_bound.new.store) a) (sym c.reduced.ensures)
-    (carried o c.args.room old new k c.become_bound.new.store c.args.item (make (0 + s.next_item)) _ more c.requires.lives refl is c.in_ok-items.ensures.local (record { items = c.in_ok-items.ensures.news; facts = refl; marked = refl }))
+    subst (λ (a : Tried). Carries o c.args.room (moment_of old k) c.args.item (moment_of new (contents_in c.become_bound.new.store)) a) (sym c.reduced.ensures)
+    (carried o c.args.room old new k (contents_in c.become_bound.new.store) c.args.item (make (0 + s.next_item)) _ more c.requires.lives refl is c.in_ok-items.ensures.local (record { items = c.in_ok-items.ensures.news; facts = refl; marked = refl }))

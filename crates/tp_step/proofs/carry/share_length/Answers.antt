@@ -5,6 +5,7 @@ use Rattle.std.specs.Prelude.{IfOk}
 use Rattle.tp_value.specs.declared.value.Shape.TheVariants.{Items}
 use Rattle.tp_store.specs.Facts.{fact}
 use Rattle.tp_store.specs.Known.{addition}
+use Rattle.tp_store.specs.Stock.{contents_in}
 use Rattle.tp_scene.specs.Scene as S
 use Rattle.tp_scene.specs.Pick.{scene_after}
 use Rattle.tp_scene.specs.Step.{Reduction}
@@ -20,7 +21,7 @@ pub returns-in-Ok-clause-ok : goal.returns-in-Ok-clause-ok
 returns-in-Ok-clause-ok c =
     let old = c.args.scene.now in
     let new = c.become_sharing.new.scene in
-    let k = c.args.store.now in
+    let k = contents_in c.args.store.now in
     let s = scene_of old in
     let ls = c.args.shared.2.items in
     let entries = news_entries ls (λ i. i + s.next_item) 0 in
@@ -30,12 +31,12 @@ returns-in-Ok-clause-ok c =
     let o = addition k.facts (fact c.args.shared.0 (Items c.args.shared.1) ∷ []) in
     let is : scene_of new ≡ scene_after c.args.item r s = made.scene ∙ ap₂ (λ es n. scene_after c.args.item (make es n) s) (leaves_same ls s.next_item 0 s.next_item (sym (zero-add s.next_item))) (length-map ls (λ l. bare (plain_leaf l))) in
     let more : 0 < c.args.room = omega (arith, c.if-room-eq0.false) in
-    carried (adding_items entries (length ls) o) c.args.room old new k c.become_sharing.new.store c.args.item r _ more c.requires.lives (ap (adding_items entries (length ls)) made.facts) is made.added
+    carried (adding_items entries (length ls) o) c.args.room old new k (contents_in c.become_sharing.new.store) c.args.item r _ more c.requires.lives (ap (adding_items entries (length ls)) made.facts) is made.added
     (record { items = made.news; facts = refl; marked = refl })
 
 pub returns-then-room-eq0-clause-ok : goal.returns-then-room-eq0-clause-ok
 returns-then-room-eq0-clause-ok c =
-    let m = moment_of c.args.scene.now c.args.store.now in
+    let m = moment_of c.args.scene.now (contents_in c.args.store.now) in
     let ls = c.args.shared.2.items in
     let entries = news_entries ls (λ i. i + (scene_of c.args.scene.now).next_item) 0 in
     let o = addition c.args.store.now.facts (fact c.args.shared.0 (Items c.args.shared.1) ∷ []) in

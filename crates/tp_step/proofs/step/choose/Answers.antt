@@ -1,5 +1,6 @@
 -- What is chosen for an item is by what stands in its slot.
 use Rattle.std.proofs.Common.{◌<◌, length, ap, sym, ◌∙◌, rules}
+use Rattle.tp_store.specs.Stock.{contents_in}
 use Rattle.tp_scene.specs.Pick.{numbers_of}
 use Rattle.tp_decide.specs.Decided.{setting_of, plain_place}
 use Rattle.tp_slots.specs.Read.{item_what, scene_of, slots_of}
@@ -18,13 +19,13 @@ place_inside-inside-requires-clause-holding c =
 
 pub place_inside-inside-requires-clause-shallow : goal.place_inside-inside-requires-clause-shallow
 place_inside-inside-requires-clause-shallow c =
-    (shallow_there (setting_of c.args.setting.now) c.requires.sound.0 c.args.store.now c.args.scene.now c.args.item c.requires.sound.1 c.requires.kept c.requires.lives).inside
+    (shallow_there (setting_of c.args.setting.now) c.requires.sound.0 (contents_in c.args.store.now) c.args.scene.now c.args.item c.requires.sound.1 c.requires.kept c.requires.lives).inside
     (place_inside-inside-requires-clause-holding c)
 
 pub returns-in-Some : goal.returns-in-Some
 returns-in-Some c =
     let s = c.args.scene.now in
-    let k = c.args.store.now in
+    let k = contents_in c.args.store.now in
     let w = setting_of c.args.setting.now in
     let n = numbers_of (scene_of s) k.variables in
     let d = c.decide_holder.result in

@@ -1,5 +1,6 @@
 -- What is chosen for an item without a region is by what stands in its slot.
 use Rattle.std.proofs.Common.{◌<◌, length, ap, sym, ◌∙◌, subst, rules}
+use Rattle.tp_store.specs.Stock.{contents_in}
 use Rattle.tp_scene.specs.Pick.{numbers_of}
 use Rattle.tp_decide.specs.Decided.{setting_of, plain_place}
 use Rattle.tp_decide.specs.ReadPhrase.{formula_of, env_of}
@@ -18,17 +19,17 @@ index-slot-requires c = let l : c.args.item < length c.args.scene.now.slots.item
 
 pub place_of_item-place-requires-clause-shallow : goal.place_of_item-place-requires-clause-shallow
 place_of_item-place-requires-clause-shallow c =
-    (shallow_there (setting_of c.args.setting.now) c.requires.sound.0 c.args.store.now c.args.scene.now c.args.item c.requires.sound.1 c.requires.kept c.requires.lives).stands
+    (shallow_there (setting_of c.args.setting.now) c.requires.sound.0 (contents_in c.args.store.now) c.args.scene.now c.args.item c.requires.sound.1 c.requires.kept c.requires.lives).stands
 
 pub decide-requires : goal.decide-requires
 decide-requires c =
     let is = what_read c.args.scene.now c.args.item c.index-slot.result.now c.requires.kept c.requires.lives c.index-slot.ensures ∙ (rw c.in-Some.is at c.due.ensures) in
-    record { fits = phrase_fits (setting_of c.args.setting.now) c.requires.sound.0 c.args.store.now c.args.scene.now c.args.item c.requires.sound.1 c.requires.kept c.requires.lives (formula_of c.in-Some.phrase.now) (env_of c.in-Some.phrase.now) is }
+    record { fits = phrase_fits (setting_of c.args.setting.now) c.requires.sound.0 (contents_in c.args.store.now) c.args.scene.now c.args.item c.requires.sound.1 c.requires.kept c.requires.lives (formula_of c.in-Some.phrase.now) (env_of c.in-Some.phrase.now) is }
 
 pub returns-in_ok-decision-in-Some : goal.returns-in_ok-decision-in-Some
 returns-in_ok-decision-in-Some c =
     let s = c.args.scene.now in
-    let k = c.args.store.now in
+    let k = contents_in c.args.store.now in
     let w = setting_of c.args.setting.now in
     let n = numbers_of (scene_of s) k.variables in
     let f = formula_of c.in-Some.phrase.now in
@@ -45,5 +46,5 @@ returns-in_ok-decision-in-Some c =
 pub returns-in-None : goal.returns-in-None
 returns-in-None c =
     let is = what_read c.args.scene.now c.args.item c.index-slot.result.now c.requires.kept c.requires.lives c.index-slot.ensures in
-    let rests = rests_undue (setting_of c.args.setting.now) c.requires.sound.0 c.args.store.now c.args.scene.now c.args.item c.requires.sound.1 c.requires.kept c.requires.lives (what_of c.index-slot.result.now.what) is c.requires.leaf (rw c.in-None.is at c.due.ensures) in
+    let rests = rests_undue (setting_of c.args.setting.now) c.requires.sound.0 (contents_in c.args.store.now) c.args.scene.now c.args.item c.requires.sound.1 c.requires.kept c.requires.lives (what_of c.index-slot.result.now.what) is c.requires.leaf (rw c.in-None.is at c.due.ensures) in
     (rests.0, tt, rests.1, tt)

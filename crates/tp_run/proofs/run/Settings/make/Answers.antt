@@ -1,5 +1,6 @@
 use Rattle.std.proofs.Common.{refl, ap, sym, subst, rules}
 use Rattle.tp_meaning.specs.Interval.{kinds_of}
+use Rattle.tp_store.specs.Stock.{contents_in}
 use Rattle.tp_step.specs.Answers.{moment_of}
 use Rattle.tp_step.specs.declared.ending.Ending.TheVariants as ending
 use Rattle.tp_decide.specs.Decided.{setting_of}
@@ -15,62 +16,62 @@ use Rattle.tp_run.proofs.run.Settings.make.Goals.{in-Rest+in_ok-made-in-Rest, in
 
 pub returns-clause-made : goal.returns-clause-made
 returns-clause-made g c = elim c.match-ending.branch [
-  | in-Rest+in_ok-made-in-Rest w ↦ rw (w.result-is, w.store-is, w.picture-is) (λ plan h. (run_rests plan c.args.self.now h c.requires.within c.if-state-self.false (moment_of c.args.scene c.args.store.now) (moment_of c.close_by_agenda.new.scene c.close_by_agenda.new.store)
+  | in-Rest+in_ok-made-in-Rest w ↦ rw (w.result-is, w.store-is, w.picture-is) (λ plan h. (run_rests plan c.args.self.now h c.requires.within c.if-state-self.false (moment_of c.args.scene (contents_in c.args.store.now)) (moment_of c.close_by_agenda.new.scene (contents_in c.close_by_agenda.new.store))
       c.clear_tally.new.tally.picks c.close_by_agenda.new.tally.picks c.in_ok-ending.ending c.in_ok-ending.ensures.closes
-      w.len-reductions.result c.args.picture.now w.make_at_rest.new.picture (stands_at w.in_ok-made-in-Rest.made.stand w.make_at_rest.new.store) w.make_at_rest.new.store w.in_ok-made-in-Rest.made.turn
+      w.len-reductions.result c.args.picture.now w.make_at_rest.new.picture (stands_at w.in_ok-made-in-Rest.made.stand (contents_in w.make_at_rest.new.store)) (contents_in w.make_at_rest.new.store) w.in_ok-made-in-Rest.made.turn
       c.clear_tally.ensures.no_picks (search rules) w.in-Rest.is w.in_ok-made-in-Rest.ensures.made).becomes)
-  | in-Clash+in_ok-made-in-Clash w ↦ rw (w.result-is, w.store-is, w.picture-is) (λ plan h. (run_clashes plan c.args.self.now h c.requires.within c.if-state-self.false (moment_of c.args.scene c.args.store.now) (moment_of c.close_by_agenda.new.scene c.close_by_agenda.new.store)
-      c.clear_tally.new.tally.picks c.close_by_agenda.new.tally.picks c.in_ok-ending.ending c.in_ok-ending.ensures.closes c.args.picture.now (stands_at w.in_ok-made-in-Clash.made.stand c.close_by_agenda.new.store) w.in_ok-made-in-Clash.made.turn c.clear_tally.ensures.no_picks
-      w.in-Clash.clash w.in-Clash.is (ap (λ (s : Stand). stands_at s c.close_by_agenda.new.store) w.in_ok-made-in-Clash.ensures.stand) w.in_ok-made-in-Clash.ensures.turn).becomes)
-  | in-Missing+in_ok-made-in-Missing w ↦ rw (w.result-is, w.store-is, w.picture-is) (λ plan h. (run_misses plan c.args.self.now h c.requires.within c.if-state-self.false (moment_of c.args.scene c.args.store.now) (moment_of c.close_by_agenda.new.scene c.close_by_agenda.new.store)
-      c.clear_tally.new.tally.picks c.close_by_agenda.new.tally.picks c.in_ok-ending.ending c.in_ok-ending.ensures.closes c.args.picture.now (stands_at w.in_ok-made-in-Missing.made.stand c.close_by_agenda.new.store) w.in_ok-made-in-Missing.made.turn c.clear_tally.ensures.no_picks
-      w.in-Missing.port w.in-Missing.is (ap (λ (s : Stand). stands_at s c.close_by_agenda.new.store) w.in_ok-made-in-Missing.ensures.stand) w.in_ok-made-in-Missing.ensures.turn).becomes)
-  | in-Over+in_ok-made-in-Over w ↦ rw (w.result-is, w.store-is, w.picture-is) (λ plan h. (run_reaches plan c.args.self.now h c.requires.within c.if-state-self.false (moment_of c.args.scene c.args.store.now) (moment_of c.close_by_agenda.new.scene c.close_by_agenda.new.store)
-      c.clear_tally.new.tally.picks c.close_by_agenda.new.tally.picks c.in_ok-ending.ending c.in_ok-ending.ensures.closes c.args.picture.now (stands_at w.in_ok-made-in-Over.made.stand c.close_by_agenda.new.store) w.in_ok-made-in-Over.made.turn c.clear_tally.ensures.no_picks
-      (kinds_of c.requires.sound.0.program.globals) (c.in_ok-ending.ensures.sound _ c.requires.sound.2) w.in-Over.limit w.in-Over.is (ap (λ (s : Stand). stands_at s c.close_by_agenda.new.store) w.in_ok-made-in-Over.ensures.stand) w.in_ok-made-in-Over.ensures.turn).becomes)
+  | in-Clash+in_ok-made-in-Clash w ↦ rw (w.result-is, w.store-is, w.picture-is) (λ plan h. (run_clashes plan c.args.self.now h c.requires.within c.if-state-self.false (moment_of c.args.scene (contents_in c.args.store.now)) (moment_of c.close_by_agenda.new.scene (contents_in c.close_by_agenda.new.store))
+      c.clear_tally.new.tally.picks c.close_by_agenda.new.tally.picks c.in_ok-ending.ending c.in_ok-ending.ensures.closes c.args.picture.now (stands_at w.in_ok-made-in-Clash.made.stand (contents_in c.close_by_agenda.new.store)) w.in_ok-made-in-Clash.made.turn c.clear_tally.ensures.no_picks
+      w.in-Clash.clash w.in-Clash.is (ap (λ (s : Stand). stands_at s (contents_in c.close_by_agenda.new.store)) w.in_ok-made-in-Clash.ensures.stand) w.in_ok-made-in-Clash.ensures.turn).becomes)
+  | in-Missing+in_ok-made-in-Missing w ↦ rw (w.result-is, w.store-is, w.picture-is) (λ plan h. (run_misses plan c.args.self.now h c.requires.within c.if-state-self.false (moment_of c.args.scene (contents_in c.args.store.now)) (moment_of c.close_by_agenda.new.scene (contents_in c.close_by_agenda.new.store))
+      c.clear_tally.new.tally.picks c.close_by_agenda.new.tally.picks c.in_ok-ending.ending c.in_ok-ending.ensures.closes c.args.picture.now (stands_at w.in_ok-made-in-Missing.made.stand (contents_in c.close_by_agenda.new.store)) w.in_ok-made-in-Missing.made.turn c.clear_tally.ensures.no_picks
+      w.in-Missing.port w.in-Missing.is (ap (λ (s : Stand). stands_at s (contents_in c.close_by_agenda.new.store)) w.in_ok-made-in-Missing.ensures.stand) w.in_ok-made-in-Missing.ensures.turn).becomes)
+  | in-Over+in_ok-made-in-Over w ↦ rw (w.result-is, w.store-is, w.picture-is) (λ plan h. (run_reaches plan c.args.self.now h c.requires.within c.if-state-self.false (moment_of c.args.scene (contents_in c.args.store.now)) (moment_of c.close_by_agenda.new.scene (contents_in c.close_by_agenda.new.store))
+      c.clear_tally.new.tally.picks c.close_by_agenda.new.tally.picks c.in_ok-ending.ending c.in_ok-ending.ensures.closes c.args.picture.now (stands_at w.in_ok-made-in-Over.made.stand (contents_in c.close_by_agenda.new.store)) w.in_ok-made-in-Over.made.turn c.clear_tally.ensures.no_picks
+      (kinds_of c.requires.sound.0.program.globals) (c.in_ok-ending.ensures.sound _ c.requires.sound.2) w.in-Over.limit w.in-Over.is (ap (λ (s : Stand). stands_at s (contents_in c.close_by_agenda.new.store)) w.in_ok-made-in-Over.ensures.stand) w.in_ok-made-in-Over.ensures.turn).becomes)
 ]
 
 pub returns-clause-in_order : goal.returns-clause-in_order
 returns-clause-in_order g c = elim c.match-ending.branch [
-  | in-Rest+in_ok-made-in-Rest w ↦ rw w.result-is (rest_named (setting_of c.args.self.now.setting) (setting_of c.args.self.now.setting) c.args.self.now.order c.args.self.now.limits.reductions c.args.self.now.globals w.len-reductions.result (moment_of c.args.scene c.args.store.now)
-      (moment_of c.close_by_agenda.new.scene c.close_by_agenda.new.store) c.args.picture.now w.make_at_rest.new.picture (stands_at w.in_ok-made-in-Rest.made.stand w.make_at_rest.new.store)
-      w.make_at_rest.new.store w.in_ok-made-in-Rest.made.turn w.in_ok-made-in-Rest.ensures.made)
-  | in-Clash+in_ok-made-in-Clash w ↦ rw w.result-is (subst (IsNamedInOrder (setting_of c.args.self.now.setting) c.args.self.now.order c.args.self.now.limits.reductions (moment_of c.args.scene c.args.store.now)) (sym w.in_ok-made-in-Clash.ensures.turn)
-      (ends_in_order (setting_of c.args.self.now.setting) c.args.self.now.order c.args.self.now.order c.args.self.now.limits.reductions c.args.self.now.limits.reductions (moment_of c.args.scene c.args.store.now) (moment_of c.close_by_agenda.new.scene c.close_by_agenda.new.store) c.clear_tally.new.tally.picks c.close_by_agenda.new.tally.picks
+  | in-Rest+in_ok-made-in-Rest w ↦ rw w.result-is (rest_named (setting_of c.args.self.now.setting) (setting_of c.args.self.now.setting) c.args.self.now.order c.args.self.now.limits.reductions c.args.self.now.globals w.len-reductions.result (moment_of c.args.scene (contents_in c.args.store.now))
+      (moment_of c.close_by_agenda.new.scene (contents_in c.close_by_agenda.new.store)) c.args.picture.now w.make_at_rest.new.picture (stands_at w.in_ok-made-in-Rest.made.stand (contents_in w.make_at_rest.new.store))
+      (contents_in w.make_at_rest.new.store) w.in_ok-made-in-Rest.made.turn w.in_ok-made-in-Rest.ensures.made)
+  | in-Clash+in_ok-made-in-Clash w ↦ rw w.result-is (subst (IsNamedInOrder (setting_of c.args.self.now.setting) c.args.self.now.order c.args.self.now.limits.reductions (moment_of c.args.scene (contents_in c.args.store.now))) (sym w.in_ok-made-in-Clash.ensures.turn)
+      (ends_in_order (setting_of c.args.self.now.setting) c.args.self.now.order c.args.self.now.order c.args.self.now.limits.reductions c.args.self.now.limits.reductions (moment_of c.args.scene (contents_in c.args.store.now)) (moment_of c.close_by_agenda.new.scene (contents_in c.close_by_agenda.new.store)) c.clear_tally.new.tally.picks c.close_by_agenda.new.tally.picks
       c.close_by_agenda.new.tally.waits.items.items c.close_by_agenda.new.tally.rests (ending.Clash w.in-Clash.clash) c.in_ok-ending.ending c.in_ok-ending.ensures.order
       refl refl c.clear_tally.ensures.no_picks w.in-Clash.is))
-  | in-Missing+in_ok-made-in-Missing w ↦ rw w.result-is (subst (IsNamedInOrder (setting_of c.args.self.now.setting) c.args.self.now.order c.args.self.now.limits.reductions (moment_of c.args.scene c.args.store.now)) (sym w.in_ok-made-in-Missing.ensures.turn)
-      (ends_in_order (setting_of c.args.self.now.setting) c.args.self.now.order c.args.self.now.order c.args.self.now.limits.reductions c.args.self.now.limits.reductions (moment_of c.args.scene c.args.store.now) (moment_of c.close_by_agenda.new.scene c.close_by_agenda.new.store) c.clear_tally.new.tally.picks c.close_by_agenda.new.tally.picks
+  | in-Missing+in_ok-made-in-Missing w ↦ rw w.result-is (subst (IsNamedInOrder (setting_of c.args.self.now.setting) c.args.self.now.order c.args.self.now.limits.reductions (moment_of c.args.scene (contents_in c.args.store.now))) (sym w.in_ok-made-in-Missing.ensures.turn)
+      (ends_in_order (setting_of c.args.self.now.setting) c.args.self.now.order c.args.self.now.order c.args.self.now.limits.reductions c.args.self.now.limits.reductions (moment_of c.args.scene (contents_in c.args.store.now)) (moment_of c.close_by_agenda.new.scene (contents_in c.close_by_agenda.new.store)) c.clear_tally.new.tally.picks c.close_by_agenda.new.tally.picks
       c.close_by_agenda.new.tally.waits.items.items c.close_by_agenda.new.tally.rests (ending.Missing w.in-Missing.port) c.in_ok-ending.ending c.in_ok-ending.ensures.order
       refl refl c.clear_tally.ensures.no_picks w.in-Missing.is))
-  | in-Over+in_ok-made-in-Over w ↦ rw w.result-is (subst (IsNamedInOrder (setting_of c.args.self.now.setting) c.args.self.now.order c.args.self.now.limits.reductions (moment_of c.args.scene c.args.store.now)) (sym w.in_ok-made-in-Over.ensures.turn)
-      (ends_in_order (setting_of c.args.self.now.setting) c.args.self.now.order c.args.self.now.order c.args.self.now.limits.reductions c.args.self.now.limits.reductions (moment_of c.args.scene c.args.store.now) (moment_of c.close_by_agenda.new.scene c.close_by_agenda.new.store) c.clear_tally.new.tally.picks c.close_by_agenda.new.tally.picks
+  | in-Over+in_ok-made-in-Over w ↦ rw w.result-is (subst (IsNamedInOrder (setting_of c.args.self.now.setting) c.args.self.now.order c.args.self.now.limits.reductions (moment_of c.args.scene (contents_in c.args.store.now))) (sym w.in_ok-made-in-Over.ensures.turn)
+      (ends_in_order (setting_of c.args.self.now.setting) c.args.self.now.order c.args.self.now.order c.args.self.now.limits.reductions c.args.self.now.limits.reductions (moment_of c.args.scene (contents_in c.args.store.now)) (moment_of c.close_by_agenda.new.scene (contents_in c.close_by_agenda.new.store)) c.clear_tally.new.tally.picks c.close_by_agenda.new.tally.picks
       c.close_by_agenda.new.tally.waits.items.items c.close_by_agenda.new.tally.rests (ending.Over w.in-Over.limit) c.in_ok-ending.ending c.in_ok-ending.ensures.order
       refl refl c.clear_tally.ensures.no_picks w.in-Over.is))
 ]
 
 pub returns-clause-tried : goal.returns-clause-tried
 returns-clause-tried g c = elim c.match-ending.branch [
-  | in-Rest+in_ok-made-in-Rest w ↦ rw (w.result-is, w.store-is, w.picture-is) (λ plan h less. is_tally plan c.args.self.now h (moment_of c.args.scene c.args.store.now) (moment_of c.close_by_agenda.new.scene c.close_by_agenda.new.store) c.args.picture.now w.make_at_rest.new.picture (stands_at w.in_ok-made-in-Rest.made.stand w.make_at_rest.new.store) w.make_at_rest.new.store w.in_ok-made-in-Rest.made.turn c.close_by_agenda.new.tally c.clear_tally.new.tally.picks c.in_ok-ending.ending
-      (run_rests plan c.args.self.now h c.requires.within c.if-state-self.false (moment_of c.args.scene c.args.store.now) (moment_of c.close_by_agenda.new.scene c.close_by_agenda.new.store)
+  | in-Rest+in_ok-made-in-Rest w ↦ rw (w.result-is, w.store-is, w.picture-is) (λ plan h less. is_tally plan c.args.self.now h (moment_of c.args.scene (contents_in c.args.store.now)) (moment_of c.close_by_agenda.new.scene (contents_in c.close_by_agenda.new.store)) c.args.picture.now w.make_at_rest.new.picture (stands_at w.in_ok-made-in-Rest.made.stand (contents_in w.make_at_rest.new.store)) (contents_in w.make_at_rest.new.store) w.in_ok-made-in-Rest.made.turn c.close_by_agenda.new.tally c.clear_tally.new.tally.picks c.in_ok-ending.ending
+      (run_rests plan c.args.self.now h c.requires.within c.if-state-self.false (moment_of c.args.scene (contents_in c.args.store.now)) (moment_of c.close_by_agenda.new.scene (contents_in c.close_by_agenda.new.store))
       c.clear_tally.new.tally.picks c.close_by_agenda.new.tally.picks c.in_ok-ending.ending c.in_ok-ending.ensures.closes
-      w.len-reductions.result c.args.picture.now w.make_at_rest.new.picture (stands_at w.in_ok-made-in-Rest.made.stand w.make_at_rest.new.store) w.make_at_rest.new.store w.in_ok-made-in-Rest.made.turn
+      w.len-reductions.result c.args.picture.now w.make_at_rest.new.picture (stands_at w.in_ok-made-in-Rest.made.stand (contents_in w.make_at_rest.new.store)) (contents_in w.make_at_rest.new.store) w.in_ok-made-in-Rest.made.turn
       c.clear_tally.ensures.no_picks (search rules) w.in-Rest.is w.in_ok-made-in-Rest.ensures.made)
       c.clear_tally.ensures.no_picks c.in_ok-ending.ensures.order c.in_ok-ending.ensures.thrifty)
-  | in-Clash+in_ok-made-in-Clash w ↦ rw (w.result-is, w.store-is, w.picture-is) (λ plan h less. is_tally plan c.args.self.now h (moment_of c.args.scene c.args.store.now) (moment_of c.close_by_agenda.new.scene c.close_by_agenda.new.store) c.args.picture.now c.args.picture.now (stands_at w.in_ok-made-in-Clash.made.stand c.close_by_agenda.new.store) c.close_by_agenda.new.store w.in_ok-made-in-Clash.made.turn c.close_by_agenda.new.tally c.clear_tally.new.tally.picks c.in_ok-ending.ending
-      (run_clashes plan c.args.self.now h c.requires.within c.if-state-self.false (moment_of c.args.scene c.args.store.now) (moment_of c.close_by_agenda.new.scene c.close_by_agenda.new.store)
-      c.clear_tally.new.tally.picks c.close_by_agenda.new.tally.picks c.in_ok-ending.ending c.in_ok-ending.ensures.closes c.args.picture.now (stands_at w.in_ok-made-in-Clash.made.stand c.close_by_agenda.new.store) w.in_ok-made-in-Clash.made.turn c.clear_tally.ensures.no_picks
-      w.in-Clash.clash w.in-Clash.is (ap (λ (s : Stand). stands_at s c.close_by_agenda.new.store) w.in_ok-made-in-Clash.ensures.stand) w.in_ok-made-in-Clash.ensures.turn)
+  | in-Clash+in_ok-made-in-Clash w ↦ rw (w.result-is, w.store-is, w.picture-is) (λ plan h less. is_tally plan c.args.self.now h (moment_of c.args.scene (contents_in c.args.store.now)) (moment_of c.close_by_agenda.new.scene (contents_in c.close_by_agenda.new.store)) c.args.picture.now c.args.picture.now (stands_at w.in_ok-made-in-Clash.made.stand (contents_in c.close_by_agenda.new.store)) (contents_in c.close_by_agenda.new.store) w.in_ok-made-in-Clash.made.turn c.close_by_agenda.new.tally c.clear_tally.new.tally.picks c.in_ok-ending.ending
+      (run_clashes plan c.args.self.now h c.requires.within c.if-state-self.false (moment_of c.args.scene (contents_in c.args.store.now)) (moment_of c.close_by_agenda.new.scene (contents_in c.close_by_agenda.new.store))
+      c.clear_tally.new.tally.picks c.close_by_agenda.new.tally.picks c.in_ok-ending.ending c.in_ok-ending.ensures.closes c.args.picture.now (stands_at w.in_ok-made-in-Clash.made.stand (contents_in c.close_by_agenda.new.store)) w.in_ok-made-in-Clash.made.turn c.clear_tally.ensures.no_picks
+      w.in-Clash.clash w.in-Clash.is (ap (λ (s : Stand). stands_at s (contents_in c.close_by_agenda.new.store)) w.in_ok-made-in-Clash.ensures.stand) w.in_ok-made-in-Clash.ensures.turn)
       c.clear_tally.ensures.no_picks c.in_ok-ending.ensures.order c.in_ok-ending.ensures.thrifty)
-  | in-Missing+in_ok-made-in-Missing w ↦ rw (w.result-is, w.store-is, w.picture-is) (λ plan h less. is_tally plan c.args.self.now h (moment_of c.args.scene c.args.store.now) (moment_of c.close_by_agenda.new.scene c.close_by_agenda.new.store) c.args.picture.now c.args.picture.now (stands_at w.in_ok-made-in-Missing.made.stand c.close_by_agenda.new.store) c.close_by_agenda.new.store w.in_ok-made-in-Missing.made.turn c.close_by_agenda.new.tally c.clear_tally.new.tally.picks c.in_ok-ending.ending
-      (run_misses plan c.args.self.now h c.requires.within c.if-state-self.false (moment_of c.args.scene c.args.store.now) (moment_of c.close_by_agenda.new.scene c.close_by_agenda.new.store)
-      c.clear_tally.new.tally.picks c.close_by_agenda.new.tally.picks c.in_ok-ending.ending c.in_ok-ending.ensures.closes c.args.picture.now (stands_at w.in_ok-made-in-Missing.made.stand c.close_by_agenda.new.store) w.in_ok-made-in-Missing.made.turn c.clear_tally.ensures.no_picks
-      w.in-Missing.port w.in-Missing.is (ap (λ (s : Stand). stands_at s c.close_by_agenda.new.store) w.in_ok-made-in-Missing.ensures.stand) w.in_ok-made-in-Missing.ensures.turn)
+  | in-Missing+in_ok-made-in-Missing w ↦ rw (w.result-is, w.store-is, w.picture-is) (λ plan h less. is_tally plan c.args.self.now h (moment_of c.args.scene (contents_in c.args.store.now)) (moment_of c.close_by_agenda.new.scene (contents_in c.close_by_agenda.new.store)) c.args.picture.now c.args.picture.now (stands_at w.in_ok-made-in-Missing.made.stand (contents_in c.close_by_agenda.new.store)) (contents_in c.close_by_agenda.new.store) w.in_ok-made-in-Missing.made.turn c.close_by_agenda.new.tally c.clear_tally.new.tally.picks c.in_ok-ending.ending
+      (run_misses plan c.args.self.now h c.requires.within c.if-state-self.false (moment_of c.args.scene (contents_in c.args.store.now)) (moment_of c.close_by_agenda.new.scene (contents_in c.close_by_agenda.new.store))
+      c.clear_tally.new.tally.picks c.close_by_agenda.new.tally.picks c.in_ok-ending.ending c.in_ok-ending.ensures.closes c.args.picture.now (stands_at w.in_ok-made-in-Missing.made.stand (contents_in c.close_by_agenda.new.store)) w.in_ok-made-in-Missing.made.turn c.clear_tally.ensures.no_picks
+      w.in-Missing.port w.in-Missing.is (ap (λ (s : Stand). stands_at s (contents_in c.close_by_agenda.new.store)) w.in_ok-made-in-Missing.ensures.stand) w.in_ok-made-in-Missing.ensures.turn)
       c.clear_tally.ensures.no_picks c.in_ok-ending.ensures.order c.in_ok-ending.ensures.thrifty)
-  | in-Over+in_ok-made-in-Over w ↦ rw (w.result-is, w.store-is, w.picture-is) (λ plan h less. is_tally plan c.args.self.now h (moment_of c.args.scene c.args.store.now) (moment_of c.close_by_agenda.new.scene c.close_by_agenda.new.store) c.args.picture.now c.args.picture.now (stands_at w.in_ok-made-in-Over.made.stand c.close_by_agenda.new.store) c.close_by_agenda.new.store w.in_ok-made-in-Over.made.turn c.close_by_agenda.new.tally c.clear_tally.new.tally.picks c.in_ok-ending.ending
-      (run_reaches plan c.args.self.now h c.requires.within c.if-state-self.false (moment_of c.args.scene c.args.store.now) (moment_of c.close_by_agenda.new.scene c.close_by_agenda.new.store)
-      c.clear_tally.new.tally.picks c.close_by_agenda.new.tally.picks c.in_ok-ending.ending c.in_ok-ending.ensures.closes c.args.picture.now (stands_at w.in_ok-made-in-Over.made.stand c.close_by_agenda.new.store) w.in_ok-made-in-Over.made.turn c.clear_tally.ensures.no_picks
-      (kinds_of c.requires.sound.0.program.globals) (c.in_ok-ending.ensures.sound _ c.requires.sound.2) w.in-Over.limit w.in-Over.is (ap (λ (s : Stand). stands_at s c.close_by_agenda.new.store) w.in_ok-made-in-Over.ensures.stand) w.in_ok-made-in-Over.ensures.turn)
+  | in-Over+in_ok-made-in-Over w ↦ rw (w.result-is, w.store-is, w.picture-is) (λ plan h less. is_tally plan c.args.self.now h (moment_of c.args.scene (contents_in c.args.store.now)) (moment_of c.close_by_agenda.new.scene (contents_in c.close_by_agenda.new.store)) c.args.picture.now c.args.picture.now (stands_at w.in_ok-made-in-Over.made.stand (contents_in c.close_by_agenda.new.store)) (contents_in c.close_by_agenda.new.store) w.in_ok-made-in-Over.made.turn c.close_by_agenda.new.tally c.clear_tally.new.tally.picks c.in_ok-ending.ending
+      (run_reaches plan c.args.self.now h c.requires.within c.if-state-self.false (moment_of c.args.scene (contents_in c.args.store.now)) (moment_of c.close_by_agenda.new.scene (contents_in c.close_by_agenda.new.store))
+      c.clear_tally.new.tally.picks c.close_by_agenda.new.tally.picks c.in_ok-ending.ending c.in_ok-ending.ensures.closes c.args.picture.now (stands_at w.in_ok-made-in-Over.made.stand (contents_in c.close_by_agenda.new.store)) w.in_ok-made-in-Over.made.turn c.clear_tally.ensures.no_picks
+      (kinds_of c.requires.sound.0.program.globals) (c.in_ok-ending.ensures.sound _ c.requires.sound.2) w.in-Over.limit w.in-Over.is (ap (λ (s : Stand). stands_at s (contents_in c.close_by_agenda.new.store)) w.in_ok-made-in-Over.ensures.stand) w.in_ok-made-in-Over.ensures.turn)
       c.clear_tally.ensures.no_picks c.in_ok-ending.ensures.order c.in_ok-ending.ensures.thrifty)
 ]
 
@@ -90,7 +91,7 @@ pub returns-clause-named : goal.returns-clause-named
 returns-clause-named g c = elim c.match-ending.branch [
   | in-Rest+in_ok-made-in-Rest w ↦ rw (w.result-is, w.store-is) (w.in_ok-made-in-Rest.ensures.named)
   | in-Clash+in_ok-made-in-Clash w ↦ rw (w.result-is, w.store-is) (end_named c.close_by_agenda.new.store.variables w.in_ok-made-in-Clash.made (Contradictory c.args.self.now.setting.state w.in-Clash.clash) c.close_by_agenda.new.scene w.in_ok-made-in-Clash.ensures.stand w.in_ok-made-in-Clash.ensures.turn
-      (run_clashes_named c.requires.sound.0 c.args.self.now c.requires.sound.1 c.requires.within c.if-state-self.false (moment_of c.args.scene c.args.store.now) (moment_of c.close_by_agenda.new.scene c.close_by_agenda.new.store)
+      (run_clashes_named c.requires.sound.0 c.args.self.now c.requires.sound.1 c.requires.within c.if-state-self.false (moment_of c.args.scene (contents_in c.args.store.now)) (moment_of c.close_by_agenda.new.scene (contents_in c.close_by_agenda.new.store))
       c.clear_tally.new.tally.picks c.close_by_agenda.new.tally.picks c.in_ok-ending.ending c.in_ok-ending.ensures.closes
       (kinds_of c.requires.sound.0.program.globals) (c.in_ok-ending.ensures.sound _ c.requires.sound.2) w.in-Clash.clash w.in-Clash.is))
   | in-Missing+in_ok-made-in-Missing w ↦ rw (w.result-is, w.store-is) (end_named c.close_by_agenda.new.store.variables w.in_ok-made-in-Missing.made (InputMissing c.args.self.now.setting.state w.in-Missing.port) c.close_by_agenda.new.scene w.in_ok-made-in-Missing.ensures.stand w.in_ok-made-in-Missing.ensures.turn tt)

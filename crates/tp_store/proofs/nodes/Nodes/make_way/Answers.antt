@@ -1,4 +1,4 @@
-use Rattle.std.proofs.Common.{◌≡◌, ◌+◌, ◌∷◌, take, ap, sym, subst, ◌∙◌, Some}
+use Rattle.std.proofs.Common.{◌≡◌, ◌+◌, ◌∷◌, take, ap, sym, subst, ◌∙◌, Some, arith}
 use Rattle.tp_value.specs.declared.path.Path.{Path}
 use Rattle.tp_store.specs.Nodes.{edges_in, child, node_from, node_or_none}
 use Rattle.tp_store.proofs.Ways.{way_on, way_below, next_way}
@@ -11,6 +11,7 @@ loop-index-init c =
     record {
       tree = led.tree;
       more = none_more c.lead_root.new.self;
+      room = omega arith;
       unique = led.unique;
       within = led.within;
       way = ap (λ (p : Path). node_or_none (child (edges_in c.lead_root.new.self) 0 p.var.number) (λ n. Some n)) (sym c.path.view_is) ∙ ap (λ o. node_or_none o (λ n. Some n)) led.child;
@@ -30,6 +31,7 @@ loop-index-preserved c =
     record {
       tree = led.tree;
       more = more_then _ c.loop-index.self new inv.more led.more;
+      room = omega (arith, inv.room, led.room);
       unique = led.unique;
       within = led.within;
       way = subst (λ xs. node_from (edges_in new) (v ∷ take (i + 1) xs) 0 ≡ Some c.in_ok-node-2.node) at

@@ -4,7 +4,13 @@ use Rattle.tp_store.specs.Nodes.{edges_in, node_from, way_of, AreWays}
 use Rattle.tp_store.proofs.Routes.{length_more}
 use Rattle.tp_store.proofs.Ways.{ways_kept, ways_more, take_long, next_item}
 use Rattle.tp_store.proofs.Growth.{more_then}
+use Rattle.tp_store.proofs.Parts.{placed_at}
 use Rattle.tp_store.proofs.nodes.Nodes.make_ways.Goals as goal
+
+pub make_way-requires-clause-placed : goal.make_way-requires-clause-placed
+make_way-requires-clause-placed c =
+    let low = placed_at (length c.args.self.now.places.items) c.args.facts.now c.loop-fact.fact-index c.fact-item.result c.requires.placed c.loop-fact-test.true c.fact-item.is in
+    omega (arith, low, c.loop-fact.invariant.more.placed)
 
 pub loop-fact-preserved : goal.loop-fact-preserved
 loop-fact-preserved c =

@@ -14,5 +14,5 @@ returns-in-Some c =
     let now : Node = record { shape = kept.shape; beyond = c.max-kept.result } in
     let new : Nodes = record { below = with_value_at old.below (c.args.node - 1) now; places = old.places } in
     let there = node_below old c.args.node (Some kept) c.requires.below (sym c.get_index_mut.ensures.value ∙ ap option_copied_mut c.in-Some.is) in
-    set_raised old new c.args.node c.args.index kept now c.requires.tree there refl (keys_set old.below.entries (c.args.node - 1) now) (written old c.args.node now c.requires.below) refl
+    set_raised old new c.args.node c.args.index kept now c.requires.tree there refl (keys_set old.below.entries (c.args.node - 1) now) (written old c.args.node now c.requires.below) refl refl
     (omega (arith, c.max-kept.ensures)) (omega (arith, c.max-kept.ensures))

@@ -1,14 +1,15 @@
-use Rattle.std.proofs.Common.{sym, subst, List}
+use Rattle.std.proofs.Common.{ap, sym, subst, List}
 use Rattle.tp_value.specs.declared.path.Fact.{Fact}
 use Rattle.tp_value.specs.Read.{tree}
 use Rattle.tp_store.specs.Known.{NoClash}
+use Rattle.tp_store.specs.Stock.{contents_in}
 use Rattle.tp_store.specs.FactMap.{AreOf}
 use Rattle.tp_store.proofs.Parts.{sound_view}
 use Rattle.tp_store.proofs.Separate.{value_apart, value_of_variable}
 use Rattle.tp_store.proofs.store.Store.add_list.Goals as goal
 
 pub returns-in_err-facts-clause-sound : goal.returns-in_err-facts-clause-sound
-returns-in_err-facts-clause-sound c = sound_view c.self.inside.entries.items c.self.inside.state c.self.inside.fixed _ c.self.view_is c.self.invariant
+returns-in_err-facts-clause-sound c = sound_view c.self.inside.entries.items c.self.inside.state c.self.inside.fixed _ (ap contents_in c.self.view_is) c.self.invariant
 
 pub add_facts-requires-clause-filed : goal.add_facts-requires-clause-filed
 add_facts-requires-clause-filed c =
@@ -21,4 +22,4 @@ add_facts-requires-clause-apart c =
     subst P (sym c.in_ok-facts.ensures) (value_apart c.args.path.now (tree c.args.value))
 
 pub returns-in_err-whole-clause-sound : goal.returns-in_err-whole-clause-sound
-returns-in_err-whole-clause-sound c = sound_view c.self.inside.entries.items c.self.inside.state c.self.inside.fixed _ c.self.view_is c.self.invariant
+returns-in_err-whole-clause-sound c = sound_view c.self.inside.entries.items c.self.inside.state c.self.inside.fixed _ (ap contents_in c.self.view_is) c.self.invariant

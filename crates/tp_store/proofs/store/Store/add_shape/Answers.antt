@@ -1,5 +1,7 @@
+use Rattle.std.proofs.Common.{ap}
+use Rattle.tp_store.specs.Stock.{contents_in}
 use Rattle.tp_store.proofs.Parts.{sound_view}
 use Rattle.tp_store.proofs.store.Store.add_shape.Goals as goal
 
 pub returns-in_err-facts-clause-sound : goal.returns-in_err-facts-clause-sound
-returns-in_err-facts-clause-sound c = sound_view c.self.inside.entries.items c.self.inside.state c.self.inside.fixed _ c.self.view_is c.self.invariant
+returns-in_err-facts-clause-sound c = sound_view c.self.inside.entries.items c.self.inside.state c.self.inside.fixed _ (ap contents_in c.self.view_is) c.self.invariant

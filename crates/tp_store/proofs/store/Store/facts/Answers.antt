@@ -4,23 +4,24 @@ use Rattle.std.proofs.lemmas.Bool.Decides.{Decides-eqb}
 use Rattle.tp_value.specs.declared.path.Fact.{Fact}
 use Rattle.tp_store.specs.FactMap.{facts_asked}
 use Rattle.tp_store.specs.declared.copies.Which.TheVariants.{Below}
+use Rattle.tp_store.specs.Stock.{contents_in}
 use Rattle.tp_store.proofs.Parts.{sound_view, appended_is}
 use Rattle.tp_store.proofs.store.Store.facts.Goals as goal
 
 pub returns-in_err-copy_to-clause-sound : goal.returns-in_err-copy_to-clause-sound
-returns-in_err-copy_to-clause-sound c = sound_view c.self.inside.entries.items c.self.inside.state c.self.inside.fixed _ c.self.view_is c.self.invariant
+returns-in_err-copy_to-clause-sound c = sound_view c.self.inside.entries.items c.self.inside.state c.self.inside.fixed _ (ap contents_in c.self.view_is) c.self.invariant
 
 pub returns-in_err-copy_to-2-clause-sound : goal.returns-in_err-copy_to-2-clause-sound
-returns-in_err-copy_to-2-clause-sound c = sound_view c.self.inside.entries.items c.self.inside.state c.self.inside.fixed _ c.self.view_is c.self.invariant
+returns-in_err-copy_to-2-clause-sound c = sound_view c.self.inside.entries.items c.self.inside.state c.self.inside.fixed _ (ap contents_in c.self.view_is) c.self.invariant
 
 pub returns-then-is_empty-clause-sound : goal.returns-then-is_empty-clause-sound
-returns-then-is_empty-clause-sound c = sound_view c.self.inside.entries.items c.self.inside.state c.self.inside.fixed _ c.self.view_is c.self.invariant
+returns-then-is_empty-clause-sound c = sound_view c.self.inside.entries.items c.self.inside.state c.self.inside.fixed _ (ap contents_in c.self.view_is) c.self.invariant
 
 pub returns-in_err-append-clause-sound : goal.returns-in_err-append-clause-sound
-returns-in_err-append-clause-sound c = sound_view c.self.inside.entries.items c.self.inside.state c.self.inside.fixed _ c.self.view_is c.self.invariant
+returns-in_err-append-clause-sound c = sound_view c.self.inside.entries.items c.self.inside.state c.self.inside.fixed _ (ap contents_in c.self.view_is) c.self.invariant
 
 pub returns-clause-sound : goal.returns-clause-sound
-returns-clause-sound c = sound_view c.self.inside.entries.items c.self.inside.state c.self.inside.fixed _ c.self.view_is c.self.invariant
+returns-clause-sound c = sound_view c.self.inside.entries.items c.self.inside.state c.self.inside.fixed _ (ap contents_in c.self.view_is) c.self.invariant
 
 pub returns-then-is_empty-clause-ok : goal.returns-then-is_empty-clause-ok
 returns-then-is_empty-clause-ok c =
@@ -29,7 +30,7 @@ returns-then-is_empty-clause-ok c =
     let both = c.in_ok-copy_to-2.ensures
     ∙ ap (λ (xs : List Fact). xs ++ among c.self.inside.fixed.facts) (c.in_ok-copy_to.ensures ∙ ap (λ (xs : List Fact). xs ++ among c.self.inside.state.facts) c.new-copies.ensures.items) in
     let none : c.args.out.now ≡ [] = sym c.out.view_is ∙ nil_from_length _ (sym c.out.inside.items.ok.0 ∙ (Decides-eqb _ 0).0 (sym c.is_empty.ensures ∙ c.if-is_empty.true)) in
-    appended_is c.self.inside.entries.items c.self.inside.state c.self.inside.fixed _ c.self.view_is c.self.invariant c.args.below copies _ _ both
+    appended_is c.self.inside.entries.items c.self.inside.state c.self.inside.fixed _ (ap contents_in c.self.view_is) c.self.invariant c.args.below copies _ _ both
     (ap (λ v. v.items) c.swap.ensures.x_after ∙ ap (λ xs. xs ++ copies) (sym none))
 
 pub returns-clause-ok : goal.returns-clause-ok
@@ -38,5 +39,5 @@ returns-clause-ok c =
     let copies = c.copy_to-2.new.facts.items in
     let both = c.in_ok-copy_to-2.ensures
     ∙ ap (λ (xs : List Fact). xs ++ among c.self.inside.fixed.facts) (c.in_ok-copy_to.ensures ∙ ap (λ (xs : List Fact). xs ++ among c.self.inside.state.facts) c.new-copies.ensures.items) in
-    appended_is c.self.inside.entries.items c.self.inside.state c.self.inside.fixed _ c.self.view_is c.self.invariant c.args.below copies _ _ both
+    appended_is c.self.inside.entries.items c.self.inside.state c.self.inside.fixed _ (ap contents_in c.self.view_is) c.self.invariant c.args.below copies _ _ both
     (c.in_ok-append.ensures.items ∙ ap (λ xs. xs ++ copies) c.out.view_is)

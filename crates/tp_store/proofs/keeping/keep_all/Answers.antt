@@ -10,12 +10,13 @@ use Rattle.tp_store.proofs.Trees.{fact_added, node_within}
 use Rattle.tp_store.proofs.Ways.{ways_long, way_here, way_below, next_item}
 use Rattle.tp_store.proofs.Growth.{length_nodes, set_tree}
 use Rattle.tp_store.proofs.Kept.{AreKept, kept_nothing, kept_next, absent_next, kept_shapes, front_apart}
-use Rattle.tp_store.proofs.nodes.keep_all.Goals as goal
+use Rattle.tp_store.proofs.keeping.keep_all.Goals as goal
 
 pub loop-i-init : goal.loop-i-init
 loop-i-init c = record {
   tree = c.requires.tree;
   edges = refl;
+  places = refl;
   kept = λ b a n. kept_nothing (facts_in_tree b c.args.nodes.now) (front_apart (facts_in_tree b c.args.nodes.now) c.args.facts.now n);
 }
 
@@ -59,6 +60,7 @@ loop-i-preserved c =
     record {
       tree = set_tree cur new n _ inv.tree c.keep.ensures.edges c.keep.ensures.nodes c.keep.ensures.places (omega arith);
       edges = c.keep.ensures.edges ∙ inv.edges;
+      places = c.keep.ensures.places ∙ inv.places;
       kept = λ b a nc.
           (let k = inv.kept b a nc in
           let first = facts_in_tree b old in
@@ -70,6 +72,9 @@ loop-i-preserved c =
           let Q : List Fact → Type 0 = λ gs. AreKept first (take i fs ++ f ∷ []) gs in
           subst P (sym (next_item fs i f low c.index-facts-i.is)) (subst Q (sym now) (kept_next first fs i f (facts_in_tree b cur) nc split k _ added)));
     }
+
+pub returns-clause-places : goal.returns-clause-places
+returns-clause-places c = ap length c.loop-i.invariant.places
 
 pub returns-clause-kept : goal.returns-clause-kept
 returns-clause-kept c = λ b a n.
