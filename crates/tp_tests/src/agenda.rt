@@ -6,6 +6,7 @@ ghost use Rattle.tp_scene.specs.Laws.{IsSound};
 ghost use Rattle.tp_decide.specs.Decided.{setting_of};
 ghost use Rattle.tp_slots.specs.Kept.{IsWellKept};
 ghost use Rattle.tp_step.specs.Answers.{moment_of};
+ghost use Rattle.tp_store.specs.Stock.{contents_in};
 
 use crate::expected::{holds, same_text};
 use crate::making::nothing_told;
@@ -55,7 +56,7 @@ fn close<L: Ledger>(
 ) -> Result<(Ending, Tally), NoMemory>
     requires kept { IsWellKept scene.old }
     requires sound { (kinds : List Bool)
-        × IsSound (setting_of setting.now) kinds (moment_of scene.old store.old) }
+        × IsSound (setting_of setting.now) kinds (moment_of scene.old (contents_in store.old)) }
     ensures kept { IsWellKept scene.new }
 {
     let mut tally = nothing_told(setting.alloc);

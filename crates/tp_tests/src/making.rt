@@ -1,5 +1,5 @@
 // What several tests make.
-ghost use Rattle.std.specs.Prelude.{◌≡◌, ◌∷◌, [], IfOk, false};
+ghost use Rattle.std.specs.Prelude.{◌≡◌, ◌∷◌, [], length, IfOk, false};
 ghost use Rattle.tp_store.specs.Known.{global_variable};
 
 use crate::tables::{cut, number};
@@ -25,7 +25,9 @@ pub fn contents(alloc: Global, name: &str, bytes: &[u8]) -> Result<Vec<Content>,
 
 /// A place of a state variable.
 pub fn path(alloc: Global, number: u64, at: &[u32]) -> Result<Path, NoMemory>
-    ensures { IfOk result (λ path. path.var ≡ record { number = number; lasting = false }) }
+    ensures variable { IfOk result (λ path.
+        path.var ≡ record { number = number; lasting = false }) }
+    ensures indices { IfOk result (λ path. length path.at ≡ length at.now) }
 {
     let mut indices = Indices::new(alloc);
     indices.items.extend_from_slice(at)?;

@@ -6,6 +6,7 @@ ghost use Rattle.tp_scene.specs.Laws.{IsSound};
 ghost use Rattle.tp_decide.specs.Decided.{setting_of};
 ghost use Rattle.tp_slots.specs.Kept.{IsWellKept};
 ghost use Rattle.tp_step.specs.Answers.{moment_of};
+ghost use Rattle.tp_store.specs.Stock.{contents_in};
 
 use crate::expected::same_text;
 use crate::sources::program_of;
@@ -33,7 +34,7 @@ pub fn begin<'a>(
     requires { ProgramFits (program_tree program.now) }
     ensures kept { IfOk result (λ r. IsWellKept r.0) }
     ensures sound { IfOk result (λ r.
-        (kinds : List Bool) × IsSound (setting_of r.2) kinds (moment_of r.0 r.1)) }
+        (kinds : List Bool) × IsSound (setting_of r.2) kinds (moment_of r.0 (contents_in r.1))) }
 {
     let store = Store::new(alloc, &program.globals)?;
     let scene = start(alloc, &program.main)?;
@@ -111,11 +112,11 @@ fn try_one<L: Ledger>(
 ) -> Result<String, Fail>
     requires kept { IsWellKept scene.old }
     requires sound { (kinds : List Bool)
-        × IsSound (setting_of setting.now) kinds (moment_of scene.old store.old) }
+        × IsSound (setting_of setting.now) kinds (moment_of scene.old (contents_in store.old)) }
     ensures kept { OnOk result (IsWellKept scene.new) }
     ensures sound { OnOk result
         ((kinds : List Bool)
-        × IsSound (setting_of setting.now) kinds (moment_of scene.new store.new)) }
+        × IsSound (setting_of setting.now) kinds (moment_of scene.new (contents_in store.new))) }
 {
     if !has_item(scene, item) {
         return Err("no such item".into());
@@ -137,11 +138,11 @@ fn tries<L: Ledger>(
 ) -> Result<String, Fail>
     requires kept { IsWellKept scene.old }
     requires sound { (kinds : List Bool)
-        × IsSound (setting_of setting.now) kinds (moment_of scene.old store.old) }
+        × IsSound (setting_of setting.now) kinds (moment_of scene.old (contents_in store.old)) }
     ensures kept { OnOk result (IsWellKept scene.new) }
     ensures sound { OnOk result
         ((kinds : List Bool)
-        × IsSound (setting_of setting.now) kinds (moment_of scene.new store.new)) }
+        × IsSound (setting_of setting.now) kinds (moment_of scene.new (contents_in store.new))) }
 {
     let mut out = String::new(setting.alloc);
     for digit in picks {

@@ -8,8 +8,8 @@ use crate::tables::{number, parts};
 use std::alloc::Global;
 use std::process::Abort;
 use std::test::Fail;
-use tp_store::{AddRefusal, Known, Store};
-use tp_value::{Facts, NoMemory, Path, Value, read_value};
+use tp_store::{AddRefusal, Known, Noted, Store};
+use tp_value::{Facts, NoMemory, Path, Shape, Value, read_value};
 
 // What is added: a value, or the length of a list, of which nothing else is known.
 #[derive(Drop)]
@@ -170,5 +170,25 @@ fn whole_lists_are_kept(rt: HostRuntime) -> Result<(), Fail> {
     same_number(&rt, facts.items.len() as u64, 2, "its facts");
     store.next_state();
     holds(&rt, store.shape(&here).is_none(), "the next state");
+    Ok(())
+}
+
+#[test]
+fn facts_are_noted(rt: HostRuntime) -> Result<(), Fail> {
+    let alloc = rt.alloc();
+    let mut store = one_variable(alloc)?;
+    let list = path(alloc, 0, &[])?;
+    let item = path(alloc, 0, &[1])?;
+    let past = path(alloc, 0, &[5])?;
+    store.reserve(8, 1)?;
+    let noted = [
+        store.note(&list, Shape::Items(2)),
+        store.note(&item, Shape::Num(7)),
+        store.note(&item, Shape::Num(7)),
+        store.note(&past, Shape::Truth(true)),
+    ];
+    let expected = [Noted::New, Noted::New, Noted::Kept, Noted::Clash];
+    holds(&rt, noted == expected, "what became of each fact");
+    holds(&rt, store.shape(&past).is_none(), "a fact that clashes");
     Ok(())
 }
