@@ -20,6 +20,7 @@ pub mod Meaning
 pub mod ValueFacts
 pub mod Values
 pub mod Separate
+pub mod Inside
 pub mod States
 pub mod Remembering
 pub mod Chosen
