@@ -1,8 +1,10 @@
 -- The facts of a value speak of each path of its variable: one has the path, or excludes it.
-use Rattle.std.proofs.Common.{◌≡◌, inl, inr, ℕ, zero, suc, ◌+◌, ◌≤◌, true, false, not, eqb, List, [], ◌∷◌, ◌++◌, length, Option, Some, None, slice_get, refl, ap, sym, ◌∙◌, subst, arith, append_assoc, append-nil}
+use Rattle.std.proofs.Common.{◌≡◌, inl, inr, ℕ, zero, suc, ◌+◌, ◌≤◌, true, false, not, eqb, nat_le, List, [], ◌∷◌, ◌++◌, length, Option, Some, None, slice_get, refl, ap, sym, ◌∙◌, subst, arith, append_assoc, append-nil}
 use Rattle.std.specs.Option.{option_and_then}
-use Rattle.std.proofs.lemmas.Bool.{and_from, eq-eqb, le-ltb}
+use Rattle.std.proofs.lemmas.Bool.{and_from, and_parts, eq-eqb, le-ltb, leb-true}
 use Rattle.tp_value.specs.Tree.{Tree, Trees, num, truth, list, nil, cons, items_of}
+use Rattle.tp_value.specs.Limits.{items_in, items_within, item_limit, depth_of, value_depth_limit, is_within_list_limit}
+use Rattle.tp_value.specs.ShortLists.{HasShortLists, HaveShortLists}
 use Rattle.tp_value.specs.Shape.{shape_of, item_of, item_at}
 use Rattle.tp_value.specs.declared.value.Shape.{Shape}
 use Rattle.tp_value.specs.declared.path.VarId.{VarId}
@@ -98,3 +100,39 @@ path_outside x t at h =
     let r = leaves_element at (path_along x []) t h in
     excluded_from (facts_at (path_along x []) t) (path_along x at) r.by r.is_in
     (and_from (same_variable r.by.path.var x) (leaves_out r.by.path.at r.by.shape at) ((same_variable-decides r.by.path.var x).1 r.variable) r.out)
+
+-- all facts of what stands at a path are facts of the value
+elements_in : (at : List ℕ) (p : Path) (t u : Tree) → item_at at t ≡ Some u → (f : Fact) → In f (facts_at (below p at) u) → In f (facts_at p t)
+elements_in [] p t u h f i =
+    let same : u ≡ t = sym (cc h) in
+    let P : List ℕ → Type 0 = λ ks. In f (facts_at (path_along p.var ks) u) in
+    subst (λ w. In f (facts_at p w)) same (subst P (append-nil p.at) i)
+elements_in (k ∷ ks) p t u h f i =
+    let P : Option Tree → Type 0 = λ o. item_of t k ≡ o → option_and_then (item_at ks) o ≡ Some u → In f (facts_at p t) in
+    let none : P None = λ e q. absurd (cc q) in
+    let some : (v : Tree) → P (Some v) = λ v e q. item_in p f t v k e (elements_in ks (item_path p k) v u q f (subst (λ js. In f (facts_at (path_along p.var js) u)) (sym (further p k ks)) i)) in
+    let cases : P (item_of t k) = elim (item_of t k) as P [ None ↦ none | Some v ↦ some v ] in
+    cases refl h
+
+pub facts_inside : (x : VarId) (t : Tree) (at : List ℕ) (u : Tree) → item_at at t ≡ Some u → (f : Fact) → In f (facts_at (path_along x at) u) → In f (facts_at (path_along x []) t)
+facts_inside x t at u h f i = elements_in at (path_along x []) t u h f i
+
+-- the lists of a value within the limit are short
+mutual
+  lists_short : (t : Tree) → items_in t ≤ item_limit → HasShortLists t
+  lists_short (num n) h = tt
+  lists_short (truth b) h = tt
+  lists_short (list ts) h =
+      let within : items_within ts ≤ item_limit = h in
+      let few = no_more_items ts in (omega (arith, within, few), all_short ts within)
+
+  all_short : (ts : Trees) → items_within ts ≤ item_limit → HaveShortLists ts
+  all_short nil h = tt
+  all_short (cons t ts) h = (lists_short t (omega (arith, h)), all_short ts (omega (arith, h)))
+
+  no_more_items : (ts : Trees) → length (items_of ts) ≤ items_within ts
+  no_more_items nil = omega arith
+  no_more_items (cons t ts) = let rest = no_more_items ts in omega (arith, rest)
+
+pub short_lists : (t : Tree) → is_within_list_limit t ≡ true → HasShortLists t
+short_lists t h = lists_short t (leb-true (items_in t) item_limit (and_parts (nat_le (depth_of t) value_depth_limit) (nat_le (items_in t) item_limit) h).1)

@@ -21,6 +21,9 @@ pub mod ValueFacts
 pub mod Values
 pub mod Separate
 pub mod Inside
+pub mod WholeValues
+pub mod WholeLooks
+pub mod PortionViews
 pub mod States
 pub mod Remembering
 pub mod Chosen

@@ -322,6 +322,14 @@ kinds_differ fs gs p h k =
     ] in
     cases refl
 
+-- facts that came in front of others come behind them
+pub shapes_swap : (new old news others : List Fact) (p : Path) → HaveSameShapes new (old ++ news) → (kept_shape news p ≡ None) ⊎ (kept_shape others p ≡ None)
+    → kept_shape (new ++ others) p ≡ kept_shape ((old ++ others) ++ news) p
+shapes_swap new old news others p same h =
+    kept_shape-append new others p ∙ ap (λ y. or_else y (kept_shape others p)) (same p ∙ kept_shape-append old news p)
+    ∙ or_else-swap (kept_shape old p) (kept_shape news p) (kept_shape others p) h
+    ∙ ap (λ y. or_else y (kept_shape news p)) (sym (kept_shape-append old others p)) ∙ sym (kept_shape-append (old ++ others) news p)
+
 swap_kinds : {A B : Type 0} → A ⊎ B → B ⊎ A
 swap_kinds (inl a) = inr a
 swap_kinds (inr b) = inl b
@@ -366,9 +374,7 @@ module _ (es : List Entry) (m n : FactsOfKind) (v : Contents) (e : contents_of e
     pub state_adds : AddsFacts v news (contents_of es o n)
     state_adds = record {
       shapes = λ p.
-          kept_shape-append o.facts n.facts p ∙ ap (λ y. or_else y (kept_shape n.facts p)) (s p ∙ kept_shape-append m.facts news p)
-          ∙ or_else-swap (kept_shape m.facts p) (kept_shape news p) (kept_shape n.facts p) (swap_kinds (kinds_differ news n.facts p (kind_of x false news lasting state_news) h.static_facts.of_kind))
-          ∙ ap (λ y. or_else y (kept_shape news p)) (sym (kept_shape-append m.facts n.facts p)) ∙ sym (kept_shape-append (m.facts ++ n.facts) news p)
+          shapes_swap o.facts m.facts news n.facts p s (swap_kinds (kinds_differ news n.facts p (kind_of x false news lasting state_news) h.static_facts.of_kind))
           ∙ ap (λ (c : Contents). kept_shape (c.facts ++ news) p) e;
       variables = ap (λ (c : Contents). c.variables) e;
     }

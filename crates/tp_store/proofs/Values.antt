@@ -23,7 +23,7 @@ use Rattle.tp_store.proofs.Same.{kept_depth}
 abbrev pub AllKept : List Fact → List Fact → Type 0
 AllKept fs gs = (g : Fact) → In g gs → kept_shape fs g.path ≡ Some g.shape
 
-first_fact : (p : Path) (t : Tree) → (sh : Shape) × In (fact p sh) (facts_at p t)
+pub first_fact : (p : Path) (t : Tree) → (sh : Shape) × In (fact p sh) (facts_at p t)
 first_fact p (num n) = (Num n, inl refl)
 first_fact p (truth b) = (Truth b, inl refl)
 first_fact p (list ts) = (shape_of (list ts), inl refl)
@@ -33,7 +33,7 @@ of_items_of nil = refl
 of_items_of (cons t ts) = ap (cons t) (of_items_of ts)
 
 mutual
-  whole_kept : (t : Tree) (fs : List Fact) (p : Path) (d : ℕ) → deepest fs ≤ length p.at + d → AllKept fs (facts_at p t) → whole (suc d) fs p ≡ known t
+  pub whole_kept : (t : Tree) (fs : List Fact) (p : Path) (d : ℕ) → deepest fs ≤ length p.at + d → AllKept fs (facts_at p t) → whole (suc d) fs p ≡ known t
   whole_kept (num n) fs p d l all = ap (with_shape (whole d fs) p) (all (fact p (Num n)) (inl refl))
   whole_kept (truth b) fs p d l all = ap (with_shape (whole d fs) p) (all (fact p (Truth b)) (inl refl))
   whole_kept (list ts) fs p d l all =

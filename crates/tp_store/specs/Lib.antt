@@ -8,3 +8,4 @@ pub mod Changes
 pub mod Answers
 pub mod Laws
 pub mod KeptValue
+pub mod Wholes

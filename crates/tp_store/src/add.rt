@@ -10,8 +10,8 @@ ghost use Rattle.tp_store.specs.KeptValue.{AreOfValue};
 ghost use Rattle.tp_store.specs.Answers.{Adds, IsRefusal};
 ghost use Rattle.tp_store.specs.Changes.{IsSoundStore, AddsFacts, HaveSameShapes};
 
-use crate::fact_map::FactMap;
 use crate::full::{go_to, item_path};
+use crate::portion::Portion;
 use crate::store::{Store, part};
 use std::alloc::Global;
 use std::rc::Rc;
@@ -53,8 +53,8 @@ fn shape_length(length: usize) -> Result<u32, NoMemory>
     Ok(length as u32)
 }
 
-// Appends the facts of the value at the path: its shape there, then the facts of its items in order.
-fn append_facts(path: &Path, value: &Value, out: &mut Vec<Fact>) -> Result<(), NoMemory>
+/// Appends the facts of the value at the path: its shape there, then the facts of its items in order.
+pub fn append_facts(path: &Path, value: &Value, out: &mut Vec<Fact>) -> Result<(), NoMemory>
     ensures { OnOk result (out.new.items ≡ out.old.items ++ facts_at path.now (tree value.now)) }
 {
     match value {
@@ -111,7 +111,7 @@ fn list_of_variable(alloc: Global, path: &Path, value: Value) -> Result<Option<R
 }
 
 // Whether facts can be added to those that are kept.
-fn check_in(alloc: Global, kept: &FactMap, facts: &[Fact]) -> Result<(), AddRefusal>
+fn check_in(alloc: Global, kept: &Portion, facts: &[Fact]) -> Result<(), AddRefusal>
     ensures ok { OnOk result
         (addition kept.now.facts facts.now ≡ adds (new_facts kept.now.facts facts.now)) }
     ensures refused { IfErr result (IsRefusal (addition kept.now.facts facts.now)) }
@@ -125,10 +125,10 @@ fn check_in(alloc: Global, kept: &FactMap, facts: &[Fact]) -> Result<(), AddRefu
     Ok(())
 }
 
-// Those of a variable's facts that are new to what is kept, or the refusal of one that clashes.
-fn news_in(
+/// Those of a variable's facts that are new to what is kept, or the refusal of one that clashes.
+pub fn news_in(
     alloc: Global,
-    kept: &FactMap,
+    kept: &Portion,
     var: VarId,
     facts: Vec<Fact>,
 ) -> Result<Vec<Fact>, AddRefusal>
@@ -143,34 +143,6 @@ fn news_in(
     check_in(alloc, kept, facts.as_slice())?;
     let news = kept.new_of(alloc, facts)?;
     Ok(news)
-}
-
-// Adds facts of one variable, which don't clash with each other, to those that are kept. Where they are those of a value of the whole
-// variable, it is kept beside them.
-fn add_in(
-    alloc: Global,
-    kept: &mut FactMap,
-    var: VarId,
-    facts: Vec<Fact>,
-    value: Option<Rc<Value>>,
-) -> Result<Facts, AddRefusal>
-    requires kind { var.lasting ≡ kept.old.lasting }
-    requires placed { var.number < kept.old.placed }
-    requires filed { AreOf var facts.items }
-    requires apart { NoClash facts.items }
-    requires value { AreOfValue var facts.items value }
-    ensures added { IfOk result (λ news. addition kept.old.facts facts.items ≡ adds news) }
-    ensures refused { IfErr result (IsRefusal (addition kept.old.facts facts.items)) }
-    ensures kind { kept.new.lasting ≡ kept.old.lasting }
-    ensures placed { kept.new.placed ≡ kept.old.placed }
-    ensures of_kind { IfOk result (λ news. AreOfKind kept.new.lasting kept.new.facts) }
-    ensures apart { IfOk result (λ news. NoClash kept.new.facts) }
-    ensures ok { IfOk result (λ news. HaveSameShapes kept.new.facts (kept.old.facts ++ news)) }
-    ensures err { OnErr result (kept.new.facts ≡ kept.old.facts) }
-{
-    let news = news_in(alloc, kept, var, facts)?;
-    kept.add(alloc, var, news.as_slice(), value)?;
-    Ok(Facts { items: news })
 }
 
 impl Store {
@@ -325,10 +297,10 @@ impl Store {
         ensures sound { IsSoundStore (contents_in self.new) }
     {
         if var.lasting {
-            let news = add_in(self.alloc, &mut self.fixed, var, facts, value)?;
+            let news = self.fixed.add(self.alloc, var, facts, value)?;
             return Ok(news);
         }
-        let news = add_in(self.alloc, &mut self.state, var, facts, value)?;
+        let news = self.state.add(self.alloc, var, facts, value)?;
         Ok(news)
     }
 }

@@ -15,8 +15,8 @@ pub enum Which {
 }
 
 impl Which {
-    // Whether the facts of the variable with that number are asked for.
-    fn has(self, number: u64) -> bool
+    /// Whether the facts of the variable with that number are asked for.
+    pub fn has(self, number: u64) -> bool
         ensures { result ≡ is_among self number }
     {
         match self {

@@ -3,11 +3,12 @@ ghost use Rattle.std.specs.Prelude.{◌≡◌, ◌<◌, ◌≤◌, ◌+◌, ◌^
 ghost use Rattle.indexmap.specs.IndexMap.{get};
 ghost use Rattle.std.specs.Option.{option_copied};
 ghost use Rattle.tp_store.specs.Facts.{fact, kept_shape, is_excluded, has_item, item_path};
-ghost use Rattle.tp_store.specs.Known.{NoClash, addition, adds, deepest, first_clash, full, new_facts, open_at, value, whole};
+ghost use Rattle.tp_store.specs.Known.{NoClash, addition, adds, deepest, first_clash, full, open_at, value, whole};
 ghost use Rattle.tp_store.specs.Changes.{HaveSameShapes};
 ghost use Rattle.tp_store.specs.FactMap.{facts_asked, AreOf, AreOfKind, IsNewFact, IsNumberOrTruth};
 ghost use Rattle.tp_store.specs.Nodes.{edges_in, nodes_in, node_from, facts_in_tree, item_shape, path_along, way_of, IsTree, IsCutOff, ArePlainItems, LacksShape};
 ghost use Rattle.tp_store.specs.Answers.{IsNoted};
+ghost use Rattle.tp_store.specs.Wholes.{AreOfOthers};
 ghost use Rattle.tp_store.specs.KeptValue.{CountsPlain, IsSaidWith, Replaces};
 ghost use Rattle.tp_value.specs.Read.{tree};
 ghost use Rattle.std.specs.declared.rc.Rc.{Rc};
@@ -203,8 +204,8 @@ fn remember(lists: &mut IndexMap<u64, Remembered>, number: u64, now: Remembered)
     let _ = lists.insert(number, now);
 }
 
-// Of these facts that which clashes with the other and is first: with the fewest indices, and among these with the lesser ones.
-fn find_clash<'a>(facts: &'a [Fact], fact: &Fact) -> Option<&'a Fact>
+/// Of these facts that which clashes with the other and is first: with the fewest indices, and among these with the lesser ones.
+pub fn find_clash<'a>(facts: &'a [Fact], fact: &Fact) -> Option<&'a Fact>
     ensures { option_copied result ≡ first_clash facts.now fact.now }
 {
     let mut first: Option<&'a Fact> = None;
@@ -340,6 +341,14 @@ impl FactMap {
         fact.path.var.lasting == self.lasting && self.judge(&fact.path, fact.shape) == Noted::New
     }
 
+    /// Whether a path of the variable with that number is kept, or was to be where memory ran out.
+    pub fn leads_to(&self, number: u64) -> bool
+        ensures { result ≡ false → AreOfOthers number self.now.facts }
+    {
+        let _count = self.nodes.count();
+        self.nodes.leads_to(number)
+    }
+
     /// Whether it is seen by a look or two that all of these facts of a variable are new and clash with none that is kept.
     pub fn takes_all(&self, var: VarId, facts: &[Fact]) -> bool
         requires { AreOf var facts.now }
@@ -354,21 +363,6 @@ impl FactMap {
             [fact] => self.is_new(fact),
             _ => false,
         }
-    }
-
-    /// Those facts of the list whose paths have no shape yet.
-    pub fn new_of(&self, alloc: Global, facts: Vec<Fact>) -> Result<Vec<Fact>, NoMemory>
-        ensures news { IfOk result (λ news. news.items ≡ new_facts self.now.facts facts.items) }
-        ensures apart { NoClash self.now.facts }
-    {
-        let _ = &self.depth;
-        let mut news = Vec::new(alloc);
-        for fact in facts {
-            if self.shape(&fact.path).is_none() {
-                news.push(fact)?;
-            }
-        }
-        Ok(news)
     }
 
     /// Appends equal facts to those of these that are asked for.

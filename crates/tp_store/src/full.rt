@@ -115,8 +115,8 @@ fn whole_at(alloc: Global, facts: &FactMap, path: &Path, deeper: u64) -> Result<
     }
 }
 
-// What is kept of a variable's value at the path.
-fn kept_at<'a>(facts: &'a FactMap, path: &Path) -> Option<&'a Rc<Value>>
+/// The value at the path, where the path is a variable and its value is kept beside these facts.
+pub fn kept_at<'a>(facts: &'a FactMap, path: &Path) -> Option<&'a Rc<Value>>
     ensures { (v : Rc ValueSeen Global) → option_copied result ≡ Some v
         → full facts.now.facts path.now ≡ value (tree v.value) }
 {
@@ -127,7 +127,8 @@ fn kept_at<'a>(facts: &'a FactMap, path: &Path) -> Option<&'a Rc<Value>>
     }
 }
 
-fn full_in(alloc: Global, facts: &FactMap, path: &Path) -> Result<Known, NoMemory>
+/// What is known of the value at the path, by these facts.
+pub fn full_in(alloc: Global, facts: &FactMap, path: &Path) -> Result<Known, NoMemory>
     ensures { IfOk result (λ known. full_of known ≡ full facts.now.facts path.now) }
 {
     if let Some(value) = kept_at(facts, path) {
@@ -157,7 +158,7 @@ impl Store {
             → full self.now.facts path.now ≡ value (tree v.value) }
         ensures sound { IsSoundStore (contents_in self.now) }
     {
-        kept_at(part(&self.state, &self.fixed, path.var.lasting), path)
+        part(&self.state, &self.fixed, path.var.lasting).value(path)
     }
 
     /// What is known of the value at the path: it has no such element where the shape of a proper prefix leaves none; else the first path,
@@ -167,7 +168,7 @@ impl Store {
         ensures sound { IsSoundStore (contents_in self.now) }
     {
         let facts = part(&self.state, &self.fixed, path.var.lasting);
-        let known = full_in(self.alloc, facts, path)?;
+        let known = facts.full(self.alloc, path)?;
         Ok(known)
     }
 }

@@ -12,7 +12,9 @@ mod keeping;
 mod laws;
 mod nodes;
 mod note;
+mod portion;
 mod store;
+mod wholes;
 
 pub use add::{AddRefusal, value_facts};
 pub use full::Known;

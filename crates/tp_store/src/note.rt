@@ -7,7 +7,7 @@ ghost use Rattle.tp_store.specs.Answers.{IsNoted, IfNew, UnlessNew};
 ghost use Rattle.tp_store.specs.Changes.{IsSoundStore, AddsFacts};
 ghost use Rattle.tp_store.specs.Entries.{TakesFact};
 
-use crate::fact_map::FactMap;
+use crate::portion::Portion;
 use crate::store::Store;
 use tp_value::{NoMemory, Path, Shape};
 
@@ -20,7 +20,7 @@ pub enum Noted {
 }
 
 // The same for the facts of one kind.
-fn note_in(kept: &mut FactMap, path: &Path, shape: Shape) -> Noted
+fn note_in(kept: &mut Portion, path: &Path, shape: Shape) -> Noted
     requires kind { path.now.var.lasting ≡ kept.old.lasting }
     requires placed { path.now.var.number < kept.old.placed }
     requires room { length path.now.at < kept.old.spare }

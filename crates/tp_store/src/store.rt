@@ -9,7 +9,7 @@ ghost use Rattle.tp_store.specs.Entries.{part_by_kind};
 
 use crate::copies::Which;
 use crate::entry::{Entry, global_entries, name_of};
-use crate::fact_map::FactMap;
+use crate::portion::Portion;
 use std::alloc::Global;
 use std::marker::Model;
 use std::mem;
@@ -22,9 +22,9 @@ pub struct Store {
     pub(crate) alloc: Global,
     pub(crate) entries: Vec<Entry>,
     // The facts of state variables, which go with the state.
-    pub(crate) state: FactMap,
+    pub(crate) state: Portion,
     // The facts of static variables.
-    pub(crate) fixed: FactMap,
+    pub(crate) fixed: Portion,
 }
 
 impl Model for Store {
@@ -42,19 +42,19 @@ impl Model for Store {
 }
 
 /// The facts of static variables, or of state variables.
-pub fn part<'a>(state: &'a FactMap, fixed: &'a FactMap, lasting: bool) -> &'a FactMap
+pub fn part<'a>(state: &'a Portion, fixed: &'a Portion, lasting: bool) -> &'a Portion
     ensures { result.now ≡ part_by_kind lasting state.now fixed.now }
 {
     if lasting { fixed } else { state }
 }
 
 // No facts of this kind, and a place for each of so many variables.
-fn placed_facts(alloc: Global, lasting: bool, count: u64) -> Result<FactMap, NoMemory>
+fn placed_facts(alloc: Global, lasting: bool, count: u64) -> Result<Portion, NoMemory>
     ensures kind { IfOk result (λ facts. facts.lasting ≡ lasting) }
     ensures facts { IfOk result (λ facts. facts.facts ≡ []) }
     ensures placed { IfOk result (λ facts. count ≤ facts.placed) }
 {
-    let mut facts = FactMap::new(alloc, lasting);
+    let mut facts = Portion::new(alloc, lasting);
     facts.place(count)?;
     Ok(facts)
 }
