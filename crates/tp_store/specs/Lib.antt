@@ -9,3 +9,4 @@ pub mod Answers
 pub mod Laws
 pub mod KeptValue
 pub mod Wholes
+pub mod Learned
