@@ -6,7 +6,8 @@ use std::alloc::Global;
 use std::marker::Model;
 use tp_kernel::LimitKind;
 use tp_scene::{Cell, Clash};
-use tp_value::{Facts, Text};
+use tp_store::Learned;
+use tp_value::Text;
 
 /// Numbers of items, in order.
 #[derive(Debug, Drop)]
@@ -37,7 +38,7 @@ impl ItemIds {
 #[derive(Drop)]
 pub struct News {
     pub items: ItemIds,
-    pub facts: Facts,
+    pub facts: Learned,
     pub marked: Option<u64>,
 }
 

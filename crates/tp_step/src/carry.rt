@@ -25,7 +25,7 @@ use tp_slots::{
     Scene, become_bound, become_leaves, become_opened, become_sharing, become_split, move_on,
     vanish,
 };
-use tp_store::{AddRefusal, Store};
+use tp_store::{AddRefusal, Learned, Store};
 use tp_value::{Facts, NoMemory, Path, Text, Value};
 
 // These items became live, no fact is new, and perhaps a region was marked.
@@ -34,9 +34,9 @@ fn reduced(alloc: Global, items: Vec<u64>, marked: Option<u64>) -> Tried
 {
     Tried::Reduced(News {
         items: ItemIds { items },
-        facts: Facts {
+        facts: Learned::listed(Facts {
             items: Vec::new(alloc),
-        },
+        }),
         marked,
     })
 }
@@ -185,7 +185,7 @@ fn full_or_refused(checked: Result<(), AddRefusal>) -> Result<Tried, NoMemory>
 }
 
 // These facts are new, and nothing stands in the item's place.
-fn learn(alloc: Global, scene: &mut Scene, item: u64, facts: Facts) -> Tried
+fn learn(alloc: Global, scene: &mut Scene, item: u64, facts: Learned) -> Tried
     requires kept { IsWellKept scene.old }
     requires lives { Lives scene.old item }
     requires free { IsBare (item_what scene.old item) }
@@ -261,7 +261,7 @@ fn set_length(
         return full_or_refused(store.check_length(&path, length));
     }
     match store.add_length(&path, length) {
-        Ok(facts) => Ok(learn(alloc, scene, item, facts)),
+        Ok(facts) => Ok(learn(alloc, scene, item, Learned::listed(facts))),
         Err(refusal) => refused(refusal),
     }
 }
@@ -296,7 +296,7 @@ fn share_length(
     match become_sharing(alloc, scene, item, news, (path, length), store) {
         Ok((items, new)) => Ok(Tried::Reduced(News {
             items: ItemIds { items },
-            facts: new,
+            facts: Learned::listed(new),
             marked: None,
         })),
         Err(refusal) => refused(refusal),

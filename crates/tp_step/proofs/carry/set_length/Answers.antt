@@ -1,9 +1,10 @@
-use Rattle.std.proofs.Common.{ℕ, ◌<◌, [], ◌∷◌, arith, sym, subst}
+use Rattle.std.proofs.Common.{ℕ, ◌<◌, List, [], ◌∷◌, arith, sym, subst}
 use Rattle.std.specs.Prelude.{IfOk}
 use Rattle.tp_scene.specs.Scene as S
 use Rattle.tp_scene.specs.Step.{PickOutcome, added}
-use Rattle.tp_step.specs.Chosen.{Carries}
+use Rattle.tp_step.specs.Chosen.{Carries, CarriesFacts}
 use Rattle.tp_value.specs.declared.value.Shape.TheVariants.{Items}
+use Rattle.tp_value.specs.declared.path.Fact.{Fact}
 use Rattle.tp_store.specs.Facts.{fact}
 use Rattle.tp_store.specs.Known.{addition}
 use Rattle.tp_store.specs.Stock.{contents_in}
@@ -16,8 +17,9 @@ returns-in-Ok-clause-ok c =
     let k = contents_in c.args.store.now in
     let news = c.in-Ok.ensures.added in
     let more : 0 < c.args.room = omega (arith, c.if-room-eq0.false) in
+    let told = subst (λ (fs : List Fact). CarriesFacts fs c.args.scene.now c.learn.new.scene c.args.item c.learn.result) c.listed.ensures c.learn.ensures.answer in
     added_facts (addition k.facts (fact c.args.target.0 (Items c.args.target.1) ∷ [])) c.in-Ok.facts c.args.room c.args.scene.now c.learn.new.scene k (contents_in c.add_length.new.self) c.args.item c.learn.result more
-    c.in-Ok.ensures.news (record { kept = news.shapes; no_clash = c.add_length.ensures.sound.no_clash; variables = news.variables }) c.learn.ensures.answer
+    c.in-Ok.ensures.news (record { kept = news.shapes; no_clash = c.add_length.ensures.sound.no_clash; variables = news.variables }) told
 
 pub returns-then-room-eq0-clause-ok : goal.returns-then-room-eq0-clause-ok
 returns-then-room-eq0-clause-ok c =

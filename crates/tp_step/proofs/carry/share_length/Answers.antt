@@ -32,7 +32,7 @@ returns-in-Ok-clause-ok c =
     let is : scene_of new ≡ scene_after c.args.item r s = made.scene ∙ ap₂ (λ es n. scene_after c.args.item (make es n) s) (leaves_same ls s.next_item 0 s.next_item (sym (zero-add s.next_item))) (length-map ls (λ l. bare (plain_leaf l))) in
     let more : 0 < c.args.room = omega (arith, c.if-room-eq0.false) in
     carried (adding_items entries (length ls) o) c.args.room old new k (contents_in c.become_sharing.new.store) c.args.item r _ more c.requires.lives (ap (adding_items entries (length ls)) made.facts) is made.added
-    (record { items = made.news; facts = refl; marked = refl })
+    (record { items = made.news; facts = c.listed.ensures; marked = refl })
 
 pub returns-then-room-eq0-clause-ok : goal.returns-then-room-eq0-clause-ok
 returns-then-room-eq0-clause-ok c =
