@@ -32,13 +32,7 @@ use Rattle.tp_slots.proofs.MarksTell.{marks_tell_status}
 use Rattle.tp_agenda.specs.Decides.{fact_decides}
 use Rattle.tp_agenda.specs.Marks.{is_known_mark, has_known_end}
 use Rattle.tp_agenda.specs.Leaves.{step_decides}
-
-passing_fact : (test : Fact → Bool) (fs : List Fact) → list_any test fs ≡ true → (f : Fact) × In f fs × (test f ≡ true)
-passing_fact test [] e = absurd (false≢true e)
-passing_fact test (f ∷ fs) e = elim (or_cases (test f) (list_any test fs) e) [
-  | inl x ↦ (f, inl refl, x)
-  | inr x ↦ (let r = passing_fact test fs x in (r.0, inr r.1, r.2))
-]
+use Rattle.tp_agenda.proofs.Given.{passing_fact}
 
 -- The ends that marks tell are those that are known.
 module _ (w : Setting) (kinds : List Bool) (m : Moment) (sound : IsSound w kinds m) (r : ℕ) where

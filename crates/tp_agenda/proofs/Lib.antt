@@ -4,6 +4,7 @@ pub mod Places
 pub mod Outer
 pub mod Waits
 pub mod Waking
+pub mod Given
 pub mod Around
 pub mod Outward
 pub mod Taking

@@ -1,12 +1,13 @@
 -- One wait after the other is over.
 use Rattle.std.proofs.Common.{◌≡◌, ◌⊎◌, ℕ, zero, suc, ◌<◌, ◌≤◌, ◌||◌, Bool, true, false, List, [], ◌∷◌, length, length-set, get_or, slice_get, slice_set, Option, Some, None, refl, ap, sym, ◌∙◌, subst, inl, inr, arith}
-use Rattle.std.proofs.lemmas.Bool.{both_ways, cases_Bool, cases_eq, or_cases}
+use Rattle.std.proofs.lemmas.Bool.{both_ways, cases_Bool, cases_eq, or_cases, and_from}
 use Rattle.std.proofs.lemmas.Bool.Decides.{Decides-eqb}
 use Rattle.std.proofs.Math.Seq.{take-length}
 use Rattle.std.proofs.lemmas.List.{get_or-set_same, get_or-set_other}
 use Rattle.tp_value.specs.declared.path.Path.{Path}
 use Rattle.tp_value.specs.declared.path.Fact.{Fact}
-use Rattle.tp_store.specs.Facts.{same_path, excludes}
+use Rattle.tp_store.specs.Facts.{same_variable, same_path, excludes}
+use Rattle.tp_store.specs.Nodes.{path_along}
 use Rattle.tp_store.proofs.Paths.{same_path-decides}
 use Rattle.tp_store.proofs.FactMapLemmas.{excluded_at}
 use Rattle.tp_scene.specs.Decided.{decides_path}
@@ -17,10 +18,10 @@ use Rattle.tp_lanes.specs.Planes.{flag}
 use Rattle.tp_agenda.specs.declared.index.Link.{Link}
 use Rattle.tp_agenda.specs.declared.index.Index.{Index}
 use Rattle.tp_agenda.specs.declared.wake.Cause.{Cause}
-use Rattle.tp_agenda.specs.declared.wake.Cause.TheVariants.{Known, Marked}
-use Rattle.tp_agenda.specs.Decides.{holds_path, has_passing, other_passes, fact_decides, is_end_of, ends_decide}
+use Rattle.tp_agenda.specs.declared.wake.Cause.TheVariants.{Known, Given, Marked}
+use Rattle.tp_agenda.specs.Decides.{holds_path, leads_into, has_passing, other_passes, fact_decides, is_place_of, is_end_of, ends_decide}
 use Rattle.tp_agenda.specs.Ready.{WaitsFor}
-use Rattle.tp_agenda.specs.Index.{no_link, places_named, IsPlaceIn, IsFiled, newest_at, newest_for}
+use Rattle.tp_agenda.specs.Index.{no_link, places_named, IsChained, IsPlaceIn, IsFiled, newest_at, newest_for}
 use Rattle.tp_agenda.specs.Wakes.{is_decided_by, newest_by, WakesOnly, AreOverAt, AreOver}
 use Rattle.tp_agenda.proofs.Outer.{outer_holds}
 use Rattle.tp_agenda.proofs.Links.{LeadBack, enough}
@@ -154,6 +155,10 @@ only_weaker waits test test' r o r' o' more h = record {
     weaker : (w : Wait) → has_passing test w ≡ true → has_passing test' w ≡ true
     weaker w e = let f = passing_cell test w e in cell_passes test' w f.0 f.1 (more f.0 f.2)
 
+-- and what a stronger one ends
+pub over_stronger : (waits : List Wait) (test test' : Cell → Bool) (over : List Bool) → ((c : Cell) → test' c ≡ true → test c ≡ true) → AreOver waits test over → AreOver waits test' over
+over_stronger waits test test' over less h i w at p = let found = passing_cell test' w p in h i w at (cell_passes test w found.0 found.1 (less found.0 found.2))
+
 -- an end that is known passes
 pub end_is_known : (known : ℕ → Bool) (region : ℕ) → known region ≡ true → (c : Cell) → is_end_of region c ≡ true → ends_decide known c ≡ true
 end_is_known known region k (Part p) e = absurd (cc)
@@ -169,6 +174,11 @@ decides_holds f p h = elim (or_cases (same_path f.path p) (excludes f p) h) [
     whole : (q : Path) → holds_path q q ≡ true
     whole q = subst (λ at. holds_path (record { var = q.var; at = at }) q ≡ true) (take-length q.at) (outer_holds q (length q.at))
 
+pub newest_fits : (x : Index) → IsChained x → (o : Cause) → newest_by x o ≤ length x.links.items
+newest_fits x h (Known f) = h.paths_fit f.path
+newest_fits x h (Given v) = h.paths_fit (path_along v [])
+newest_fits x h (Marked r) = h.ends_fit r
+
 -- where those that the cause's links name are over, all are
 pub all_over : (x : Index) (waits : List Wait) (cause : Cause) (ready over ready' over' : List Bool) → IsFiled x waits over
     → WakesOnly waits (is_decided_by cause) ready over ready' over'
@@ -179,6 +189,13 @@ all_over x waits (Known f) ready over ready' over' filed only among i w at p =
   where
     by_cell : (c : Cell) → WaitsFor w c → fact_decides f c ≡ true → IsPlaceIn (places_named (newest_at x f.path) x.links.items (newest_at x f.path)) i
     by_cell (Part q) has t = filed.paths i w q f.path at has (decides_holds f q t)
+    by_cell (End r d) has t = absurd (cc)
+all_over x waits (Given v) ready over ready' over' filed only among i w at p =
+    let found = passing_cell (is_place_of v) w p in
+    among i w (by_cell found.0 found.1 found.2) at p
+  where
+    by_cell : (c : Cell) → WaitsFor w c → is_place_of v c ≡ true → IsPlaceIn (places_named (newest_at x (path_along v [])) x.links.items (newest_at x (path_along v []))) i
+    by_cell (Part q) has t = filed.paths i w q (path_along v []) at has (and_from (same_variable v q.var) (leads_into [] q.at) t refl)
     by_cell (End r d) has t = absurd (cc)
 all_over x waits (Marked r) ready over ready' over' filed only among i w at p =
     let found = passing_cell (is_end_of r) w p in

@@ -1,5 +1,6 @@
 -- What decides the cells that items wait for.
 use Rattle.std.specs.Prelude.{◌||◌, ◌&&◌, ℕ, Bool, true, false, eqb, List, [], ◌∷◌, Option, Some, None}
+use Rattle.tp_value.specs.declared.path.VarId.{VarId}
 use Rattle.tp_value.specs.declared.path.Path.{Path}
 use Rattle.tp_value.specs.declared.path.Fact.{Fact}
 use Rattle.tp_store.specs.Facts.{same_variable}
@@ -16,10 +17,15 @@ other_passes test (Some c) = test c
 abbrev pub has_passing : (Cell → Bool) → Wait → Bool
 has_passing test w = test w.first || other_passes test w.other
 
--- Tests of cells: the fact decides the path; it is the end of this region.
+-- Tests of cells: the fact decides the path; it is a place in this variable's value; it is the end of
+-- this region.
 abbrev pub fact_decides : Fact → Cell → Bool
 fact_decides f (Part p) = decides_path f p
 fact_decides f (End region depth) = false
+
+abbrev pub is_place_of : VarId → Cell → Bool
+is_place_of x (Part p) = same_variable x p.var
+is_place_of x (End region depth) = false
 
 abbrev pub is_end_of : ℕ → Cell → Bool
 is_end_of r (Part p) = false

@@ -1,22 +1,25 @@
 -- What waking does: waits are over, and their items are ready.
-use Rattle.std.specs.Prelude.{◌≡◌, ◌⊎◌, ℕ, Bool, true, false, List, length, slice_get, Some}
+use Rattle.std.specs.Prelude.{◌≡◌, ◌⊎◌, ℕ, Bool, true, false, List, [], length, slice_get, Some}
+use Rattle.tp_store.specs.Nodes.{path_along}
 use Rattle.tp_scene.specs.declared.answer.Cell.{Cell}
 use Rattle.tp_step.specs.declared.answer.Wait.{Wait}
 use Rattle.tp_lanes.specs.Planes.{flag}
 use Rattle.tp_agenda.specs.declared.wake.Cause.{Cause}
 use Rattle.tp_agenda.specs.declared.wake.Cause.TheVariants as cause
 use Rattle.tp_agenda.specs.declared.index.Index.{Index}
-use Rattle.tp_agenda.specs.Decides.{fact_decides, is_end_of, has_passing}
+use Rattle.tp_agenda.specs.Decides.{fact_decides, is_place_of, is_end_of, has_passing}
 use Rattle.tp_agenda.specs.Index.{IsPlaceIn, newest_at, newest_for}
 
 -- the cells that it decides, and the newest link of the waits for them
 abbrev pub is_decided_by : Cause → Cell → Bool
 is_decided_by (cause.Known f) = fact_decides f
+is_decided_by (cause.Given x) = is_place_of x
 is_decided_by (cause.Marked r) = is_end_of r
 
 abbrev pub newest_by : Index → Cause → ℕ
-newest_by x (cause.Known f) = newest_at x f.path
-newest_by x (cause.Marked r) = newest_for x r
+newest_by i (cause.Known f) = newest_at i f.path
+newest_by i (cause.Given x) = newest_at i (path_along x [])
+newest_by i (cause.Marked r) = newest_for i r
 
 -- A wait of the item isn't over, and a cell of it passes.
 pub record IsAwaiting (waits : List Wait) (test : Cell → Bool) (over : List Bool)

@@ -19,6 +19,7 @@ use tp_decide::Leaf;
 use tp_lanes::Plane;
 use tp_slots::{Holder, What, remember};
 use tp_step::{Ending, News, Order, Scene, Tally, Tried, Wait, Waits, choose_place, has_item};
+use tp_store::{Learned, LearnedKind};
 use tp_value::{Facts, NoMemory};
 
 /// What a closure keeps beside its tally: the numbers of the ready items, which are below a bound; of each wait of the tally whether it
@@ -120,7 +121,7 @@ fn add_moving(ready: &mut Plane, scene: &Scene, items: &[u64])
 }
 
 // Each wait is over for what one of the facts decides.
-fn wake_by_facts(
+fn wake_by_each(
     waits: &[Wait],
     index: &Index,
     facts: Facts,
@@ -137,6 +138,28 @@ fn wake_by_facts(
 {
     for fact in facts.items {
         wake_by(waits, index, &Cause::Known(fact), ready, over);
+    }
+}
+
+// The same, where the facts may be those of a whole value, which aren't made: they decide each place in it.
+fn wake_by_facts(
+    waits: &[Wait],
+    index: &Index,
+    facts: Learned,
+    ready: &mut Plane,
+    over: &mut Vec<bool>,
+)
+    requires filed { IsFiled index.now waits.now over.old.items }
+    requires sizes { length over.old.items ≡ length waits.now }
+    requires below { All (λ w. w.item < length ready.old) waits.now }
+    ensures only { WakesOnly waits.now (facts_decide facts) ready.old over.old.items
+        ready.new over.new.items }
+    ensures all { AreOver waits.now (facts_decide facts) over.new.items }
+    ensures filed { IsFiled index.now waits.now over.new.items }
+{
+    match facts.kind {
+        LearnedKind::Listed(facts) => wake_by_each(waits, index, facts, ready, over),
+        LearnedKind::Whole(var, _) => wake_by(waits, index, &Cause::Given(var), ready, over),
     }
 }
 

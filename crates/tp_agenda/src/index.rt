@@ -5,6 +5,7 @@ ghost use Rattle.std.specs.Cmp.Rules.{hashing};
 ghost use Rattle.std.proofs.Common.{rules};
 ghost use Rattle.indexmap.specs.IndexMap.{get, Updates};
 ghost use Rattle.tp_store.specs.FactMap.{outer_path};
+ghost use Rattle.tp_store.specs.Nodes.{path_along};
 ghost use Rattle.tp_step.specs.declared.answer.Wait.{Wait as WaitSeen};
 ghost use Rattle.tp_agenda.specs.Decides.{holds_path};
 ghost use Rattle.tp_agenda.specs.Index.{HasFiled, IsChained, IsFiled, IsPushed, equal_paths, is_filed_for, is_filed_under, item_number, newest_at, newest_for};
@@ -93,6 +94,16 @@ pub(crate) fn newest_at(index: &Index, path: &Path) -> u32
         _ => index.parts.get(path),
     };
     match newest {
+        Some(link) => *link,
+        None => 0,
+    }
+}
+
+/// The newest link of the variable whole, from 1; 0 for none. No path is made for it.
+pub(crate) fn newest_of(index: &Index, var: VarId) -> u32
+    ensures { result ≡ newest_at index.now (path_along var []) }
+{
+    match index.wholes.get(&var) {
         Some(link) => *link,
         None => 0,
     }

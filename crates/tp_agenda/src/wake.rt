@@ -7,15 +7,17 @@ ghost use Rattle.tp_agenda.specs.Decides.{has_passing};
 ghost use Rattle.tp_agenda.specs.Index.{IsChained, IsFiled, no_link, places_named};
 ghost use Rattle.tp_agenda.specs.Wakes.{AreOver, AreOverAt, WakesOnly, is_decided_by, newest_by};
 
-use crate::index::{Index, Link, newest_at, newest_for};
+use crate::index::{Index, Link, newest_at, newest_for, newest_of};
 use tp_lanes::Plane;
 use tp_step::{Cell, Wait};
-use tp_value::{Fact, Path, Shape};
+use tp_value::{Fact, Path, Shape, VarId};
 
-/// What decides cells: a fact that is new, or a mark on a region whose end is known by it.
+/// What decides cells: a fact that is new; a whole value that a variable got, which decides each place in it; or a mark on a region whose
+/// end is known by it.
 #[derive(Drop)]
 pub enum Cause {
     Known(Fact),
+    Given(VarId),
     Marked(u64),
 }
 
@@ -72,6 +74,10 @@ fn decides(cause: &Cause, cell: &Cell) -> bool
             Cell::Part(path) => decides_path(fact, path),
             Cell::End { .. } => false,
         },
+        Cause::Given(var) => match cell {
+            Cell::Part(path) => *var == path.var,
+            Cell::End { .. } => false,
+        },
         Cause::Marked(region) => match cell {
             Cell::Part(_) => false,
             Cell::End { region: ended, .. } => *ended == *region,
@@ -122,6 +128,7 @@ fn newest_by(index: &Index, cause: &Cause) -> u32
     }
     match cause {
         Cause::Known(fact) => newest_at(index, &fact.path),
+        Cause::Given(var) => newest_of(index, *var),
         Cause::Marked(region) => newest_for(index, *region),
     }
 }

@@ -1,9 +1,16 @@
-use Rattle.std.proofs.Common.{ℕ, List, subst}
+use Rattle.std.proofs.Common.{ℕ, List, length, ap, subst, arith}
 use Rattle.tp_agenda.specs.declared.index.Link.{Link}
 use Rattle.tp_agenda.specs.Index.{places_named}
 use Rattle.tp_agenda.specs.Wakes.{AreOverAt, is_decided_by}
-use Rattle.tp_agenda.proofs.Waking.{all_over, filed_on}
+use Rattle.tp_agenda.proofs.Waking.{all_over, filed_on, newest_fits}
 use Rattle.tp_agenda.proofs.wake.wake_by.Goals as goal
+
+pub wake_from-requires-clause-newest : goal.wake_from-requires-clause-newest
+wake_from-requires-clause-newest c =
+    let fits = newest_fits c.args.index.now c.requires.filed.chained c.args.cause.now in
+    let newest = c.newest_by-newest.ensures in
+    let links = ap length c.as_slice.ensures.value in
+    omega (arith, fits, newest, links)
 
 pub returns-clause-all : goal.returns-clause-all
 returns-clause-all c =

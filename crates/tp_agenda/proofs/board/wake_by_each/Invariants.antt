@@ -1,5 +1,5 @@
 use Rattle.tp_agenda.proofs.Waked.{WakesFor}
-use Rattle.tp_agenda.proofs.board.wake_by_facts.Given as goal
+use Rattle.tp_agenda.proofs.board.wake_by_each.Given as goal
 
 abbrev pub invariant-loop-fact : goal.invariant-loop-fact
 invariant-loop-fact l =
