@@ -1,5 +1,5 @@
 -- What the facts of a whole value decide: each place in it.
-use Rattle.std.proofs.Common.{◌≡◌, ◌⊎◌, inl, inr, ◌&&◌, ◌||◌, Bool, true, false, List, [], ◌∷◌, Option, None, Some, refl, ap, sym, ◌∙◌, subst}
+use Rattle.std.proofs.Common.{◌≡◌, inl, inr, Bool, true, List, [], ◌∷◌, Option, None, Some, refl, ap, ◌∙◌, subst}
 use Rattle.std.specs.List.{list_any}
 use Rattle.std.proofs.lemmas.Bool.{or_cases, or_left, or_right, and_parts, false≢true}
 use Rattle.tp_value.specs.Tree.{Tree}
@@ -7,7 +7,7 @@ use Rattle.tp_value.specs.Shape.{shape_of, item_at}
 use Rattle.tp_value.specs.declared.path.VarId.{VarId}
 use Rattle.tp_value.specs.declared.path.Path.{Path}
 use Rattle.tp_value.specs.declared.path.Fact.{Fact}
-use Rattle.tp_store.specs.Facts.{same_variable, same_path, excludes, is_excluded, facts_at, fact}
+use Rattle.tp_store.specs.Facts.{same_variable, same_path, excludes, facts_at, fact}
 use Rattle.tp_store.specs.Nodes.{path_along}
 use Rattle.tp_store.proofs.Paths.{same_variable-decides, same_path-refl}
 use Rattle.tp_store.proofs.Members.{In, excluded_by}
