@@ -24,6 +24,7 @@ pub mod Inside
 pub mod WholeValues
 pub mod WholeLooks
 pub mod PortionViews
+pub mod Giving
 pub mod States
 pub mod Remembering
 pub mod Chosen

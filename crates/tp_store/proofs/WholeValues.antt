@@ -13,7 +13,7 @@ use Rattle.tp_value.specs.declared.path.VarId.{VarId}
 use Rattle.tp_value.specs.declared.path.Path.{Path}
 use Rattle.tp_value.specs.declared.path.Fact.{Fact}
 use Rattle.tp_store.specs.Facts.{same_path, clash, fact}
-use Rattle.tp_store.specs.Known.{NoClash}
+use Rattle.tp_store.specs.Known.{NoClash, addition, adds}
 use Rattle.tp_store.specs.Changes.{HaveSameShapes}
 use Rattle.tp_store.specs.FactMap.{AreOf, AreOfKind, is_among, facts_asked}
 use Rattle.tp_store.specs.declared.copies.Which.{Which}
@@ -23,8 +23,9 @@ use Rattle.tp_store.proofs.Paths.{same_truth-decides, same_path-decides}
 use Rattle.tp_store.proofs.Members.{In, in_left, in_right, in_append, kept_in, in_kept, NoClash-append, Apart}
 use Rattle.tp_store.proofs.Separate.{value_apart, value_of_variable}
 use Rattle.tp_store.proofs.Parts.{of_in, kind_in, kind_from}
-use Rattle.tp_store.proofs.Same.{AgreeAt, clash-variable}
+use Rattle.tp_store.proofs.Same.{AgreeAt, clash-variable, same_addition}
 use Rattle.tp_store.proofs.Values.{first_fact}
+use Rattle.tp_store.proofs.Adding.{adds_to_none}
 
 -- no fact of these is of that variable
 pub others_none : (n : ℕ) (fs : List Fact) → AreOfOthers n fs → (f : Fact) → In f fs → f.path.var.number ≡ n → ⊥
@@ -333,3 +334,17 @@ none_left (e ∷ es) (suc i) h = none_left es i (omega (arith, h))
 
 pub all_asked : (which : Which) (b : Bool) (es : List (ℕ × Rc Value Global)) (i : ℕ) (out all : List Fact) → length es ≤ i → out ++ facts_asked which (whole_facts b (drop i es)) ≡ all → out ≡ all
 all_asked which b es i out all h e = sym (append-nil out) ∙ sym (ap (λ xs. out ++ facts_asked which (whole_facts b xs)) (none_left es i h)) ∙ e
+
+pub both_others : (n : ℕ) (xs ys : List Fact) → AreOfOthers n xs → AreOfOthers n ys → AreOfOthers n (xs ++ ys)
+both_others n xs ys h k = others_from n (xs ++ ys) (λ f i e. elim (in_append f xs ys i) [ inl j ↦ others_none n xs h f j e | inr j ↦ others_none n ys k f j e ])
+
+pub right_others : (n : ℕ) (xs ys : List Fact) → AreOfOthers n (xs ++ ys) → AreOfOthers n ys
+right_others n xs ys h = others_from n ys (λ f i e. others_none n (xs ++ ys) h f (in_right f xs ys i) e)
+
+-- all facts of a variable are new where there is none of it
+pub adds_to_others : (fs facts : List Fact) (x : VarId) → NoClash fs → AreOf x facts → AreOfOthers x.number fs → addition fs facts ≡ adds facts
+adds_to_others fs facts x n a o =
+    same_addition fs [] facts n tt (λ f i. record {
+      there = λ g e j. absurd (others_none x.number fs o g j (ap (λ (y : VarId). y.number) (e ∙ of_in x facts a f i)));
+      back = λ g e j. absurd j;
+    }) ∙ adds_to_none facts

@@ -11,7 +11,6 @@ ghost use Rattle.tp_store.specs.Answers.{Adds, IsRefusal};
 ghost use Rattle.tp_store.specs.Changes.{IsSoundStore, AddsFacts, HaveSameShapes};
 
 use crate::full::{go_to, item_path};
-use crate::learned::Learned;
 use crate::portion::Portion;
 use crate::store::{Store, part};
 use std::alloc::Global;
@@ -168,24 +167,8 @@ impl Store {
         self.add_value(path, value)
     }
 
-    /// The same, of a path and a value that are handed in: they are kept, and not copied.
-    pub fn set(&mut self, path: Path, value: Value) -> Result<Learned, AddRefusal>
-        requires { IsVariableOf self.old.variables path.var }
-        ensures news { IfOk result (λ news.
-            addition self.old.facts (facts_at path (tree value)) ≡ adds news) }
-        ensures refused { IfErr result
-            (IsRefusal (addition self.old.facts (facts_at path (tree value)))) }
-        ensures added { IfOk result (λ news.
-            AddsFacts (contents_in self.old) news (contents_in self.new)) }
-        ensures err { OnErr result (contents_in self.new ≡ contents_in self.old) }
-        ensures sound { IsSoundStore (contents_in self.new) }
-    {
-        let facts = self.add_value(path, value)?;
-        Ok(Learned::listed(facts))
-    }
-
-    // The same, where the new facts are wanted one by one.
-    fn add_value(&mut self, path: Path, value: Value) -> Result<Facts, AddRefusal>
+    /// The same, of a path and a value that are handed in.
+    pub(crate) fn add_value(&mut self, path: Path, value: Value) -> Result<Facts, AddRefusal>
         requires { IsVariableOf self.old.variables path.var }
         ensures news { IfOk result (λ news.
             addition self.old.facts (facts_at path (tree value)) ≡ adds news) }

@@ -1,8 +1,7 @@
 // What was new to a store.
-ghost use Rattle.std.specs.Prelude.{◌≡◌, []};
+ghost use Rattle.std.specs.Prelude.{◌≡◌};
 ghost use Rattle.tp_value.specs.Read.{tree};
-ghost use Rattle.tp_store.specs.Facts.{facts_at};
-ghost use Rattle.tp_store.specs.Nodes.{path_along};
+ghost use Rattle.tp_store.specs.Wholes.{facts_of_value};
 
 use std::marker::Model;
 use std::rc::Rc;
@@ -43,7 +42,7 @@ impl Learned {
 
     /// The facts of the value, which the whole variable has.
     pub fn whole(var: VarId, value: Rc<Value>) -> Learned
-        ensures { result ≡ facts_at (path_along var []) (tree value.value) }
+        ensures { result ≡ facts_of_value var (tree value.value) }
     {
         Learned {
             kind: LearnedKind::Whole(var, value),

@@ -14,6 +14,7 @@ mod learned;
 mod nodes;
 mod note;
 mod portion;
+mod set;
 mod store;
 mod wholes;
 
