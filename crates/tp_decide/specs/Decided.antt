@@ -25,6 +25,7 @@ use Rattle.tp_decide.specs.declared.decision.Decision.TheVariants as decision
 use Rattle.tp_decide.specs.declared.regions.RegionKind.{RegionKind}
 use Rattle.tp_decide.specs.declared.regions.RegionKind.TheVariants as region
 use Rattle.tp_decide.specs.declared.setting.Setting.{Setting}
+use Rattle.tp_decide.specs.NewLeaves.{leaf_list}
 use Rattle.tp_decide.specs.Read.{values_of}
 use Rattle.tp_decide.specs.ReadPhrase.{formula_of, env_of}
 
@@ -93,8 +94,8 @@ adding_items news items (refuses kept new) = row.clashes (Facts kept new)
 abbrev pub decided_outcome : List Fact → Numbers → Decision → PickOutcome
 decided_outcome facts n (decision.Becomes news m) =
     row.reduces (record {
-      news = news_entries news.items n.item 0;
-      items = length news.items;
+      news = news_entries (leaf_list news) n.item 0;
+      items = length (leaf_list news);
       regions = 0;
       local = None;
       mark = option_map mark_of m;
@@ -123,7 +124,7 @@ decided_outcome facts n (decision.Binds name lasting body) =
 decided_outcome facts n (decision.Sets p v) = row.added (addition facts (facts_at p (tree v)))
 decided_outcome facts n (decision.Measures p k) = row.added (addition facts (fact p (Items k) ∷ []))
 decided_outcome facts n (decision.Shares to k news) =
-    adding_items (news_entries news.items n.item 0) (length news.items)
+    adding_items (news_entries (leaf_list news) n.item 0) (length (leaf_list news))
     (addition facts (fact to (Items k) ∷ []))
 decided_outcome facts n (decision.Waits first other) = row.waits first other
 decided_outcome facts n decision.Rests = row.rests

@@ -1,5 +1,6 @@
 pub mod Read
 pub mod ReadPhrase
+pub mod NewLeaves
 pub mod Decided
 pub mod Found
 pub mod Fits

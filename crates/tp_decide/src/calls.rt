@@ -167,8 +167,7 @@ fn unfold(
         Ok(bound) => {
             let what = def.formula.clone()?;
             let env = Rc::new(alloc, bound)?;
-            let decision = becomes_one(alloc, Leaf::Do(Phrase { what, env }))?;
-            Ok(decision)
+            Ok(becomes_one(Leaf::Do(Phrase { what, env })))
         }
         Err(decision) => Ok(decision),
     }

@@ -96,7 +96,7 @@ pub fn decide_turns(
     if to <= k {
         let end = Rc::new(alloc, Formula::Empty)?;
         let leaf = due(end, &body.env)?;
-        return becomes_one(alloc, leaf);
+        return Ok(becomes_one(leaf));
     }
     let turn = counted(alloc, k, body)?;
     let rest = count_on(alloc, CountKind::Turns, name, k, to, &body.what)?;
@@ -122,10 +122,10 @@ pub fn decide_instances(
         Err(decision) => return Ok(decision),
     };
     if to <= k {
-        return Ok(nothing(alloc));
+        return Ok(nothing());
     }
     let first = counted(alloc, k, body)?;
     let rest = count_on(alloc, CountKind::Instances, name, k, to, &body.what)?;
     let others = due(rest, &body.env)?;
-    becomes_two(alloc, Leaf::Do(first), others)
+    Ok(becomes_two(Leaf::Do(first), others))
 }

@@ -3,12 +3,13 @@ ghost use Rattle.std.specs.Prelude.{◌≡◌, IfOk, length, None};
 ghost use Rattle.tp_kernel.specs.Read.{formula_tree, bindings_of};
 ghost use Rattle.tp_scene.specs.Scene as S;
 ghost use Rattle.tp_scene.specs.Step as row;
-ghost use Rattle.tp_decide.specs.Decided.{Decides, IfOkDecides, plain_leaf, news_entries, plain_place};
+ghost use Rattle.tp_decide.specs.Decided.{Decides, plain_leaf, news_entries, plain_place};
+ghost use Rattle.tp_decide.specs.NewLeaves.{leaf_list};
 ghost use Rattle.tp_decide.specs.Fits.{IsPlain};
 
 use crate::env::under;
+use crate::leaves::Leaves;
 use crate::phrase::{Phrase, Values};
-use std::alloc::Global;
 use std::rc::Rc;
 use tp_kernel::{Env, Formula, LimitKind};
 use tp_scene::{Cell, Clash};
@@ -49,7 +50,7 @@ pub enum Leaf {
 #[derive(Drop)]
 pub enum Decision {
     Becomes {
-        news: Vec<Leaf>,
+        news: Leaves,
         mark: Option<Side>,
     },
     Splits {
@@ -70,7 +71,7 @@ pub enum Decision {
     Shares {
         to: Path,
         length: u32,
-        news: Vec<Leaf>,
+        news: Leaves,
     },
     Waits(Cell, Option<Cell>),
     Rests,
@@ -80,20 +81,17 @@ pub enum Decision {
 }
 
 /// Nothing stands in the item's place.
-pub fn nothing(alloc: Global) -> Decision
+pub fn nothing() -> Decision
     ensures outcome { Decides result (λ n. row.vanishes) }
     ensures plain { IsPlain result }
 {
-    Decision::Becomes {
-        news: Vec::new(alloc),
-        mark: None,
-    }
+    becomes(Leaves::None)
 }
 
 /// The items stand in its place.
-pub fn becomes(news: Vec<Leaf>) -> Decision
+pub fn becomes(news: Leaves) -> Decision
     ensures outcome { Decides result (λ n.
-        row.becomes (news_entries news.items n.item 0) (length news.items)) }
+        row.becomes (news_entries (leaf_list news) n.item 0) (length (leaf_list news))) }
     ensures plain { IsPlain result }
 {
     Decision::Becomes { news, mark: None }
@@ -118,32 +116,28 @@ pub fn later(what: Rc<Formula>, env: &Rc<Env>) -> Result<Leaf, NoMemory>
 }
 
 /// One item stands in its place.
-pub fn becomes_one(alloc: Global, leaf: Leaf) -> Result<Decision, NoMemory>
-    ensures outcome { IfOkDecides result (λ n. row.becomes (S.leaf (n.item 0) (plain_leaf leaf) S.none) 1) }
-    ensures plain { IfOk result IsPlain }
+pub fn becomes_one(leaf: Leaf) -> Decision
+    ensures outcome { Decides result (λ n. row.becomes (S.leaf (n.item 0) (plain_leaf leaf) S.none) 1) }
+    ensures plain { IsPlain result }
 {
-    let mut news = Vec::new(alloc);
-    news.push(leaf)?;
-    Ok(becomes(news))
+    becomes(Leaves::One(leaf))
 }
 
 /// Two items stand in its place.
-pub fn becomes_two(alloc: Global, first: Leaf, second: Leaf) -> Result<Decision, NoMemory>
-    ensures outcome { IfOkDecides result (λ n.
+pub fn becomes_two(first: Leaf, second: Leaf) -> Decision
+    ensures outcome { Decides result (λ n.
         row.becomes
         (S.leaf (n.item 0) (plain_leaf first) (S.leaf (n.item 1) (plain_leaf second) S.none)) 2) }
-    ensures plain { IfOk result IsPlain }
+    ensures plain { IsPlain result }
 {
-    let mut news = Vec::new(alloc);
-    news.push(first)?;
-    news.push(second)?;
-    Ok(becomes(news))
+    becomes(Leaves::Two(first, second))
 }
 
 /// The items stand in its place, and its region is marked to go on.
-pub fn go(place: Place, news: Vec<Leaf>) -> Decision
+pub fn go(place: Place, news: Leaves) -> Decision
     ensures outcome { Decides result (λ n.
-        row.going (plain_place place) (news_entries news.items n.item 0) (length news.items)) }
+        row.going (plain_place place) (news_entries (leaf_list news) n.item 0)
+        (length (leaf_list news))) }
     ensures plain { IsPlain result }
 {
     if place.ends {
@@ -157,7 +151,7 @@ pub fn go(place: Place, news: Vec<Leaf>) -> Decision
 }
 
 /// Nothing stands in its place, and its region is marked to end.
-pub fn end(alloc: Global, place: Place) -> Decision
+pub fn end(place: Place) -> Decision
     ensures outcome { Decides result (λ n. row.ending (plain_place place)) }
     ensures plain { IsPlain result }
 {
@@ -165,7 +159,7 @@ pub fn end(alloc: Global, place: Place) -> Decision
         Decision::Clashes(Clash::Marks { depth: place.depth })
     } else {
         Decision::Becomes {
-            news: Vec::new(alloc),
+            news: Leaves::None,
             mark: Some(Side::Ending),
         }
     }

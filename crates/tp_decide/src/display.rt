@@ -54,7 +54,7 @@ pub fn decide_display(
     ensures plain { IfOk result IsPlain }
 {
     match find_values(alloc, exprs, env, store, setting)? {
-        Ok(values) => becomes_one(alloc, Leaf::Shown(values)),
+        Ok(values) => Ok(becomes_one(Leaf::Shown(values))),
         Err(decision) => Ok(decision),
     }
 }

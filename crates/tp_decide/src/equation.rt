@@ -54,7 +54,7 @@ fn measure_number(path: Path, n: Number) -> Decision
 }
 
 // The other side has this value.
-fn meet(alloc: Global, target: Option<Target>, found: Outcome, value: Value) -> Decision
+fn meet(target: Option<Target>, found: Outcome, value: Value) -> Decision
     ensures outcome { (facts : List Fact) (n : row.Numbers) (placed : Bool)
         → decided_outcome facts n result
         ≡ row.meets facts
@@ -65,11 +65,11 @@ fn meet(alloc: Global, target: Option<Target>, found: Outcome, value: Value) -> 
     match target {
         Some(Target::Value(path)) => Decision::Sets(path, value),
         Some(Target::Length(path)) => measure(path, value),
-        None => compare(alloc, found, value),
+        None => compare(found, value),
     }
 }
 
-fn compare(alloc: Global, found: Outcome, value: Value) -> Decision
+fn compare(found: Outcome, value: Value) -> Decision
     ensures outcome { (facts : List Fact) (n : row.Numbers) (placed : Bool)
         → decided_outcome facts n result
         ≡ row.meets facts (record { placed = placed; target = None; found = outcome_tree found })
@@ -80,7 +80,7 @@ fn compare(alloc: Global, found: Outcome, value: Value) -> Decision
         Outcome::Value(other) => {
             same_tree_is_equality();
             if same(&other, &value) {
-                nothing(alloc)
+                nothing()
             } else {
                 Decision::Clashes(Clash::False)
             }
@@ -137,7 +137,7 @@ fn pass_on_right(left: Outcome, target: &Option<Target>, limit: LimitKind) -> De
 }
 
 // The right side has this value.
-fn value_on_right(alloc: Global, target: Option<Target>, left: Outcome, value: Value) -> Decision
+fn value_on_right(target: Option<Target>, left: Outcome, value: Value) -> Decision
     ensures outcome { (facts : List Fact) (n : row.Numbers) (placed : Bool) (r : row.SideOf)
         → r.found ≡ found.value (tree value)
         → decided_outcome facts n result
@@ -148,13 +148,13 @@ fn value_on_right(alloc: Global, target: Option<Target>, left: Outcome, value: V
     match left {
         Outcome::Fault(kind) => Decision::Clashes(Clash::NoValue(kind)),
         Outcome::Over(kind) => Decision::Passes(kind),
-        Outcome::Value(other) => meet(alloc, target, Outcome::Value(other), value),
-        Outcome::Wait(path) => meet(alloc, target, Outcome::Wait(path), value),
+        Outcome::Value(other) => meet(target, Outcome::Value(other), value),
+        Outcome::Wait(path) => meet(target, Outcome::Wait(path), value),
     }
 }
 
 // What becomes of the equation of two sides by what is found of them.
-fn equate_values(alloc: Global, left: Side, right: Side) -> Decision
+fn equate_values(left: Side, right: Side) -> Decision
     ensures outcome { (facts : List Fact) (n : row.Numbers)
         → decided_outcome facts n result
         ≡ row.equate_values facts (side_found left) (side_found right) }
@@ -174,11 +174,11 @@ fn equate_values(alloc: Global, left: Side, right: Side) -> Decision
     match right_found {
         Outcome::Fault(kind) => Decision::Clashes(Clash::NoValue(kind)),
         Outcome::Over(kind) => pass_on_right(left_found, &right_target, kind),
-        Outcome::Value(value) => value_on_right(alloc, left_target, left_found, value),
+        Outcome::Value(value) => value_on_right(left_target, left_found, value),
         Outcome::Wait(path) => match left_found {
             Outcome::Fault(kind) => Decision::Clashes(Clash::NoValue(kind)),
             Outcome::Over(kind) => pass_or_wait(&left_target, path, kind),
-            Outcome::Value(value) => meet(alloc, right_target, Outcome::Wait(path), value),
+            Outcome::Value(value) => meet(right_target, Outcome::Wait(path), value),
             Outcome::Wait(other) => wait_for_both(is_left_placed, is_right_placed, other, path),
         },
     }
@@ -285,9 +285,9 @@ pub fn decide_equation(
     if are_equal(&left, &right) {
         same_tree_is_equality();
         store.count(); // whose facts don't clash
-        return Ok(nothing(alloc));
+        return Ok(nothing());
     }
-    Ok(equate_values(alloc, left, right))
+    Ok(equate_values(left, right))
 }
 
 /// What becomes of the equation with the value that the inputs have for the port.
@@ -312,7 +312,7 @@ pub fn decide_input(
         Some(value) => {
             let left = side_of(alloc, expr, env, store, setting.defs)?;
             let right = side_with(alloc, value)?;
-            Ok(equate_values(alloc, left, right))
+            Ok(equate_values(left, right))
         }
         None => {
             let port = port.copy()?;

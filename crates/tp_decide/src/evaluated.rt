@@ -22,14 +22,14 @@ use tp_scene::Clash;
 use tp_value::{NoMemory, Number, Value};
 
 /// Nothing, where the truth value that was looked for is true.
-pub fn decide_test(alloc: Global, found: Outcome) -> Decision
+pub fn decide_test(found: Outcome) -> Decision
     ensures outcome { Decides result (λ n.
         row.with_truth (outcome_tree found) (λ b.
         if b then row.vanishes else row.clashes Clash.False)) }
     ensures plain { IsPlain result }
 {
     match truth(found) {
-        Ok(true) => nothing(alloc),
+        Ok(true) => nothing(),
         Ok(false) => Decision::Clashes(Clash::False),
         Err(decision) => decision,
     }
@@ -37,7 +37,6 @@ pub fn decide_test(alloc: Global, found: Outcome) -> Decision
 
 /// The branch that the truth value chooses.
 pub fn decide_branch(
-    alloc: Global,
     found: Outcome,
     yes: &Rc<Formula>,
     no: &Rc<Formula>,
@@ -52,11 +51,11 @@ pub fn decide_branch(
     match truth(found) {
         Ok(true) => {
             let leaf = due(yes.clone()?, env)?;
-            becomes_one(alloc, leaf)
+            Ok(becomes_one(leaf))
         }
         Ok(false) => {
             let leaf = due(no.clone()?, env)?;
-            becomes_one(alloc, leaf)
+            Ok(becomes_one(leaf))
         }
         Err(decision) => Ok(decision),
     }
@@ -87,7 +86,7 @@ fn decide_length(alloc: Global, left: Number, env: &Rc<Env>) -> Result<Decision,
     }
     let what = shorter(alloc, left)?;
     let leaf = due(what, env)?;
-    becomes_one(alloc, leaf)
+    Ok(becomes_one(leaf))
 }
 
 /// A length of as many states as the number says.
@@ -135,7 +134,7 @@ pub fn decide_assign(
             let at_end = Rc::new(alloc, Formula::IfEmpty(equal))?;
             let all = Rc::new(alloc, Formula::Always(at_end))?;
             let leaf = due(all, env)?;
-            becomes_one(alloc, leaf)
+            Ok(becomes_one(leaf))
         }
         Err(decision) => Ok(decision),
     }
@@ -176,7 +175,7 @@ pub fn decide_next_equation(
         Ok(value) => {
             let equal = equation(alloc, target, value)?;
             let whole = under_nexts(alloc, count - 1, equal)?;
-            let decision = decide_next(alloc, &whole, env, place)?;
+            let decision = decide_next(&whole, env, place)?;
             Ok(decision)
         }
         Err(decision) => Ok(decision),

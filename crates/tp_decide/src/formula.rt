@@ -19,6 +19,7 @@ use crate::equation::{decide_equation, decide_input};
 use crate::evaluated::{
     decide_assign, decide_branch, decide_len, decide_next_equation, decide_test,
 };
+use crate::leaves::Leaves;
 use crate::phrase::Phrase;
 use crate::regions::{RegionKind, decide_exists, decide_region};
 use crate::setting::Setting;
@@ -30,12 +31,7 @@ use tp_store::Store;
 use tp_value::NoMemory;
 
 /// The formula from the next state on, which there is.
-pub fn decide_next(
-    alloc: Global,
-    what: &Rc<Formula>,
-    env: &Rc<Env>,
-    place: Place,
-) -> Result<Decision, NoMemory>
+pub fn decide_next(what: &Rc<Formula>, env: &Rc<Env>, place: Place) -> Result<Decision, NoMemory>
     ensures outcome { IfOkDecides result (λ n.
         row.going (plain_place place)
         (S.leaf (n.item 0) (S.Later (formula_tree what.now.value) (bindings_of env.now.value))
@@ -43,14 +39,12 @@ pub fn decide_next(
         1) }
     ensures plain { IfOk result IsPlain }
 {
-    let mut news = Vec::new(alloc);
-    news.push(later(what.clone()?, env)?)?;
-    Ok(go(place, news))
+    let leaf = later(what.clone()?, env)?;
+    Ok(go(place, Leaves::One(leaf)))
 }
 
 /// By the region's status: the formula from the next state on, or nothing.
 pub fn decide_weak_next(
-    alloc: Global,
     what: &Rc<Formula>,
     env: &Rc<Env>,
     place: Place,
@@ -66,21 +60,16 @@ pub fn decide_weak_next(
 {
     if place.goes {
         let leaf = later(what.clone()?, env)?;
-        becomes_one(alloc, leaf)
+        Ok(becomes_one(leaf))
     } else if place.ends {
-        Ok(nothing(alloc))
+        Ok(nothing())
     } else {
         Ok(wait_for_end(place))
     }
 }
 
 /// By the region's status: the formula now, where the region goes on.
-pub fn decide_if_more(
-    alloc: Global,
-    what: &Rc<Formula>,
-    env: &Rc<Env>,
-    place: Place,
-) -> Result<Decision, NoMemory>
+pub fn decide_if_more(what: &Rc<Formula>, env: &Rc<Env>, place: Place) -> Result<Decision, NoMemory>
     ensures outcome { IfOkDecides result (λ n.
         row.by_status (plain_place place)
         (becomes_due (formula_tree what.now.value) (bindings_of env.now.value) n) row.vanishes) }
@@ -88,9 +77,9 @@ pub fn decide_if_more(
 {
     if place.goes {
         let leaf = due(what.clone()?, env)?;
-        becomes_one(alloc, leaf)
+        Ok(becomes_one(leaf))
     } else if place.ends {
-        Ok(nothing(alloc))
+        Ok(nothing())
     } else {
         Ok(wait_for_end(place))
     }
@@ -98,7 +87,6 @@ pub fn decide_if_more(
 
 /// By the region's status: the formula now, where the region ends.
 pub fn decide_if_empty(
-    alloc: Global,
     what: &Rc<Formula>,
     env: &Rc<Env>,
     place: Place,
@@ -109,10 +97,10 @@ pub fn decide_if_empty(
     ensures plain { IfOk result IsPlain }
 {
     if place.goes {
-        Ok(nothing(alloc))
+        Ok(nothing())
     } else if place.ends {
         let leaf = due(what.clone()?, env)?;
-        becomes_one(alloc, leaf)
+        Ok(becomes_one(leaf))
     } else {
         Ok(wait_for_end(place))
     }
@@ -138,7 +126,7 @@ pub fn decide_always(
     let again = Rc::new(alloc, Formula::WeakNext(all.clone()?))?;
     let first = due(what.clone()?, env)?;
     let second = due(again, env)?;
-    becomes_two(alloc, first, second)
+    Ok(becomes_two(first, second))
 }
 
 /// Each operand, in order.
@@ -148,10 +136,10 @@ pub fn decide_and(alloc: Global, operands: &Formulas, env: &Rc<Env>) -> Result<D
         (row.count_of (formula_trees operands.now))) }
     ensures plain { IfOk result IsPlain }
 {
-    let mut news = Vec::new(alloc);
+    let mut news = Leaves::None;
     for operand in &operands.items {
         let leaf = due(operand.clone()?, env)?;
-        news.push(leaf)?;
+        news = news.with(alloc, leaf)?;
     }
     Ok(becomes(news))
 }
@@ -193,7 +181,7 @@ pub fn decide_while(
     let end = Rc::new(alloc, Formula::Empty)?;
     let choice = Rc::new(alloc, Formula::If(condition.clone()?, turn, end))?;
     let leaf = due(choice, env)?;
-    becomes_one(alloc, leaf)
+    Ok(becomes_one(leaf))
 }
 
 /// What picking an item with this formula gives, in a region of that place.
@@ -216,27 +204,27 @@ pub fn decide(
 {
     let env = &phrase.env;
     match &*phrase.what {
-        Formula::True => Ok(nothing(alloc)),
+        Formula::True => Ok(nothing()),
         Formula::Test(e) => {
             let found = eval(alloc, e, env, store, setting.defs)?;
-            Ok(decide_test(alloc, found))
+            Ok(decide_test(found))
         }
         Formula::Eq(l, r) => decide_equation(alloc, l, r, env, store, setting),
         Formula::NextEq(k, t, e) => {
             let found = eval(alloc, e, env, store, setting.defs)?;
             decide_next_equation(alloc, *k, t, found, env, place)
         }
-        Formula::Empty => Ok(end(alloc, place)),
-        Formula::More => Ok(go(place, Vec::new(alloc))),
-        Formula::Next(w) => decide_next(alloc, w, env, place),
-        Formula::WeakNext(w) => decide_weak_next(alloc, w, env, place),
-        Formula::IfMore(w) => decide_if_more(alloc, w, env, place),
-        Formula::IfEmpty(w) => decide_if_empty(alloc, w, env, place),
+        Formula::Empty => Ok(end(place)),
+        Formula::More => Ok(go(place, Leaves::None)),
+        Formula::Next(w) => decide_next(w, env, place),
+        Formula::WeakNext(w) => decide_weak_next(w, env, place),
+        Formula::IfMore(w) => decide_if_more(w, env, place),
+        Formula::IfEmpty(w) => decide_if_empty(w, env, place),
         Formula::Always(w) => decide_always(alloc, &phrase.what, w, env),
         Formula::And(operands) => decide_and(alloc, operands, env),
         Formula::If(b, yes, no) => {
             let found = eval(alloc, b, env, store, setting.defs)?;
-            decide_branch(alloc, found, yes, no, env)
+            decide_branch(found, yes, no, env)
         }
         Formula::Len(e) => {
             let found = eval(alloc, e, env, store, setting.defs)?;
