@@ -39,8 +39,7 @@ pub fn decide_next(what: &Rc<Formula>, env: &Rc<Env>, place: Place) -> Result<De
         1) }
     ensures plain { IfOk result IsPlain }
 {
-    let leaf = later(what.clone()?, env)?;
-    Ok(go(place, Leaves::One(leaf)))
+    Ok(go(place, Leaves::One(later(what.clone()?, env)?)))
 }
 
 /// By the region's status: the formula from the next state on, or nothing.
