@@ -3,6 +3,7 @@ ghost use Rattle.std.specs.Prelude.{◌≡◌, ◌<◌, ◌≤◌, ◌+◌, ◌-
 ghost use Rattle.std.specs.Option.{option_map};
 ghost use Rattle.std.specs.List.{range_with_len};
 ghost use Rattle.tp_decide.specs.Decided.{mark_of};
+ghost use Rattle.tp_decide.specs.NewLeaves.{leaf_list};
 ghost use Rattle.tp_scene.specs.Scene as S;
 ghost use Rattle.tp_slots.specs.Flags.{FlagsFollow};
 ghost use Rattle.tp_slots.specs.Kept.{HasRoomFor, IsUnchanged, IsShaped, IsQuiet, IsWellKept, Lives, region_lives, IsReducedTo, flags_on};
@@ -18,7 +19,7 @@ use crate::flags::raise;
 use crate::looks::pass_mark;
 use crate::scene::{Region, Scene, Slot, What};
 use std::alloc::Global;
-use tp_decide::{Leaf, Side};
+use tp_decide::{Leaf, Leaves, Side};
 use tp_value::NoMemory;
 
 /// So many numbers, from the first on.
@@ -130,9 +131,26 @@ fn raise_mark(scene: &mut Scene, region: u64, mark: Option<Side>)
     }
 }
 
-// Appends slots of one region for leaves, for which there is room. The first one has this number; each is visited after the one before it,
-// and `end` after the last.
-fn push_leaves(list: &mut Vec<Slot>, home: u64, first: u64, end: Option<u64>, leaves: Vec<Leaf>)
+// Appends a slot of one region for the first of so many leaves that are left, for which there is room, as `push_link` does.
+fn push_leaf(list: &mut Vec<Slot>, home: u64, left: u64, last: u64, end: Option<u64>, leaf: Leaf)
+    requires some { 0 < left }
+    requires within { left ≤ last }
+    requires room { vec_len list.old < vec_capacity list.old }
+    ensures slots { all_slots list.new.items
+        ≡ all_slots list.old.items ++ slots_in home (bare_leaves (leaf ∷ [])) }
+    ensures afters { slot_afters list.new.items ++ links (last - (left - 1)) (left - 1) end
+        ≡ slot_afters list.old.items ++ links (last - left) left end }
+    ensures len { vec_len list.new ≡ vec_len list.old + 1 }
+    ensures capacity { vec_capacity list.old ≤ vec_capacity list.new }
+{
+    let Ok(()) = push_link(list, home, left, last, end, What::Leaf(leaf)) else {
+        unreachable!();
+    };
+}
+
+// Appends slots of one region for a list of leaves, for which there is room. The first one has this number; each is visited after the one
+// before it, and `end` after the last.
+fn push_list(list: &mut Vec<Slot>, home: u64, first: u64, end: Option<u64>, leaves: Vec<Leaf>)
     requires few { first + length leaves.items < 2 ^ 64 }
     requires room { vec_len list.old + length leaves.items ≤ vec_capacity list.old }
     ensures slots { all_slots list.new.items
@@ -143,28 +161,46 @@ fn push_leaves(list: &mut Vec<Slot>, home: u64, first: u64, end: Option<u64>, le
     let mut left = leaves.len() as u64;
     let last = first + left;
     for leaf in leaves {
-        let Ok(()) = push_link(list, home, left, last, end, What::Leaf(leaf)) else {
-            unreachable!();
-        };
+        push_leaf(list, home, left, last, end, leaf);
         left -= 1;
+    }
+}
+
+// The same for leaves as a decision has them.
+fn push_leaves(list: &mut Vec<Slot>, home: u64, first: u64, end: Option<u64>, leaves: Leaves)
+    requires few { first + length (leaf_list leaves) < 2 ^ 64 }
+    requires room { vec_len list.old + length (leaf_list leaves) ≤ vec_capacity list.old }
+    ensures slots { all_slots list.new.items
+        ≡ all_slots list.old.items ++ slots_in home (bare_leaves (leaf_list leaves)) }
+    ensures afters { slot_afters list.new.items
+        ≡ slot_afters list.old.items ++ links first (length (leaf_list leaves)) end }
+{
+    match leaves {
+        Leaves::None => {}
+        Leaves::One(leaf) => push_leaf(list, home, 1, first + 1, end, leaf),
+        Leaves::Two(one, other) => {
+            push_leaf(list, home, 2, first + 2, end, one);
+            push_leaf(list, home, 1, first + 2, end, other);
+        }
+        Leaves::Many(many) => push_list(list, home, first, end, many),
     }
 }
 
 // Leaves, for which there is room, stand in place of an item, whose region is marked. What is answered is that region. They go straight
 // into the scene's slots: a list of them first would be an allocation more in each step.
-fn commit_leaves(scene: &mut Scene, item: u64, side: Option<Side>, leaves: Vec<Leaf>) -> u64
+fn commit_leaves(scene: &mut Scene, item: u64, side: Option<Side>, leaves: Leaves) -> u64
     requires item { item < length scene.old.slots.items }
     requires home { item_home scene.old item < length scene.old.regions.items }
-    requires room { HasRoomFor (length leaves.items) scene.old }
+    requires room { HasRoomFor (length (leaf_list leaves)) scene.old }
     ensures home { result ≡ item_home scene.old item }
     ensures slots { slots_of scene.new
         ≡ stepped (slots_of scene.old) item (option_map mark_of side) []
-        (bare_leaves leaves.items) }
+        (bare_leaves (leaf_list leaves)) }
     ensures holders { holders_of scene.new ≡ holders_of scene.old }
     ensures ends { ends_of scene.new ≡ ends_of scene.old }
     ensures goes { goes_of scene.new ≡ goes_of scene.old }
     ensures afters { afters_of scene.new
-        ≡ afters_then (afters_of scene.old) 0 (length leaves.items) item }
+        ≡ afters_then (afters_of scene.old) 0 (length (leaf_list leaves)) item }
     ensures looks { scene.new.looks ≡ scene.old.looks }
 {
     let first = scene.slots.len() as u64;
@@ -177,24 +213,24 @@ fn commit_leaves(scene: &mut Scene, item: u64, side: Option<Side>, leaves: Vec<L
 }
 
 /// Items that hold no region, for which there is room, stand in an item's place, and its region is marked.
-pub fn place_leaves(scene: &mut Scene, item: u64, mark: Option<Side>, leaves: Vec<Leaf>)
+pub fn place_leaves(scene: &mut Scene, item: u64, mark: Option<Side>, leaves: Leaves)
     requires kept { IsWellKept scene.old }
     requires lives { Lives scene.old item }
     requires free { IsBare (item_what scene.old item) }
-    requires room { HasRoomFor (length leaves.items) scene.old }
+    requires room { HasRoomFor (length (leaf_list leaves)) scene.old }
     ensures kept { IsWellKept scene.new }
     ensures scene { let reduction =
-        becomes_leaves (scene_of scene.old) (bare_leaves leaves.items) (option_map mark_of mark)
+        becomes_leaves (scene_of scene.old) (bare_leaves (leaf_list leaves)) (option_map mark_of mark)
         in IsReducedTo item reduction scene.old scene.new }
     ensures news { new_items (scene_of scene.old) (scene_of scene.new)
-        ≡ range_with_len (length scene.old.slots.items) (length leaves.items) }
+        ≡ range_with_len (length scene.old.slots.items) (length (leaf_list leaves)) }
 {
     let home = commit_leaves(scene, item, mark, leaves);
     raise_mark(scene, home, mark);
 }
 
 /// Nothing stands in an item's place.
-pub fn vanish(alloc: Global, scene: &mut Scene, item: u64)
+pub fn vanish(scene: &mut Scene, item: u64)
     requires kept { IsWellKept scene.old }
     requires lives { Lives scene.old item }
     requires free { IsBare (item_what scene.old item) }
@@ -203,7 +239,7 @@ pub fn vanish(alloc: Global, scene: &mut Scene, item: u64)
         scene.old scene.new }
     ensures news { new_items (scene_of scene.old) (scene_of scene.new) ≡ [] }
 {
-    place_leaves(scene, item, None, Vec::new(alloc));
+    place_leaves(scene, item, None, Leaves::None);
 }
 
 /// Items that hold no region stand in an item's place, and its region is marked. What became live is answered. Or nothing changes.
@@ -212,7 +248,7 @@ pub fn become_leaves(
     alloc: Global,
     scene: &mut Scene,
     item: u64,
-    news: Vec<Leaf>,
+    news: Leaves,
     mark: Option<Side>,
 ) -> Result<Vec<u64>, NoMemory>
     requires kept { IsWellKept scene.old }
@@ -220,7 +256,7 @@ pub fn become_leaves(
     requires free { IsBare (item_what scene.old item) }
     ensures kept { IsWellKept scene.new }
     ensures scene { let reduction =
-        becomes_leaves (scene_of scene.old) (bare_leaves news.items) (option_map mark_of mark)
+        becomes_leaves (scene_of scene.old) (bare_leaves (leaf_list news)) (option_map mark_of mark)
         in OnOk result (IsReducedTo item reduction scene.old scene.new) }
     ensures news { IfOk result (λ v.
         v.items ≡ new_items (scene_of scene.old) (scene_of scene.new)) }

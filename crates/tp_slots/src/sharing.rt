@@ -5,6 +5,7 @@ ghost use Rattle.tp_store.specs.Answers.{IsRefusal};
 ghost use Rattle.tp_store.specs.Facts.{fact};
 ghost use Rattle.tp_store.specs.Known.{IsVariableOf, addition, adds};
 ghost use Rattle.tp_store.specs.Stock.{contents_in};
+ghost use Rattle.tp_decide.specs.NewLeaves.{leaf_list};
 ghost use Rattle.tp_scene.specs.Pick.{HasAdded};
 ghost use Rattle.tp_slots.specs.Kept.{IsReducedTo, IsUnchanged, IsWellKept, Lives};
 ghost use Rattle.tp_slots.specs.News.{bare_leaves, new_items};
@@ -14,7 +15,7 @@ ghost use Rattle.tp_slots.specs.Reductions.{IsBare, becomes_leaves};
 use crate::leaves::{make_room, numbers, place_leaves};
 use crate::scene::Scene;
 use std::alloc::Global;
-use tp_decide::Leaf;
+use tp_decide::Leaves;
 use tp_store::{AddRefusal, Store};
 use tp_value::{Facts, Path};
 
@@ -25,7 +26,7 @@ pub fn become_sharing(
     alloc: Global,
     scene: &mut Scene,
     item: u64,
-    news: Vec<Leaf>,
+    news: Leaves,
     target: (Path, u32),
     store: &mut Store,
 ) -> Result<(Vec<u64>, Facts), AddRefusal>
@@ -34,7 +35,7 @@ pub fn become_sharing(
     requires free { IsBare (item_what scene.old item) }
     requires variable { IsVariableOf store.old.variables target.0.var }
     ensures kept { IsWellKept scene.new }
-    ensures scene { let reduction = becomes_leaves (scene_of scene.old) (bare_leaves news.items) None in
+    ensures scene { let reduction = becomes_leaves (scene_of scene.old) (bare_leaves (leaf_list news)) None in
         OnOk result (IsReducedTo item reduction scene.old scene.new) }
     ensures news { IfOk result (λ made.
         made.0.items ≡ new_items (scene_of scene.old) (scene_of scene.new)) }

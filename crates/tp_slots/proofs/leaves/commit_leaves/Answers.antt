@@ -5,6 +5,7 @@ use Rattle.std.specs.Option.{option_map}
 use Rattle.std.specs.Vec.{with_items}
 use Rattle.std.proofs.lemmas.List.{get_or-map, length-map, with_items_is}
 use Rattle.tp_decide.specs.Decided.{mark_of, plain_leaf}
+use Rattle.tp_decide.specs.NewLeaves.{leaf_list}
 use Rattle.tp_decide.specs.declared.decision.Leaf.{Leaf}
 use Rattle.tp_slots.specs.News.{bare_leaves}
 use Rattle.tp_slots.specs.Plain as plain
@@ -21,7 +22,7 @@ returns-clause-slots c =
     let s = c.args.scene.now in
     let t = c.args.item in
     let mark = option_map mark_of c.args.side in
-    let outs = bare_leaves c.args.leaves.items in
+    let outs = bare_leaves (leaf_list c.args.leaves) in
     let old = c.as_mut_slice.ensures.value in
     let home = c.go-home.ensures.home ∙ ap (λ l. home_in (map slot_of l) t) old in
     let gone = c.go-home.ensures.slots ∙ ap (λ l. gone_at (map slot_of l) t (range_with_len c.len-first.result c.len-count.result)) old in
@@ -30,9 +31,9 @@ returns-clause-slots c =
     let regions = with_items_is s.regions c.set_mark.new.list (let e : length c.set_mark.new.list ≡ s.regions.len = search rules in e) in
     let marked = ap (map region_slot_of) regions ∙ c.set_mark.ensures.slots ∙ (λ i. marked_at (map region_slot_of (c.as_mut_slice-2.ensures.value i)) (home i) mark) in
     let first : c.len-first.result ≡ length s.slots.items = search rules in
-    let count : c.len-count.result ≡ length c.args.leaves.items = search rules in
+    let count : c.len-count.result ≡ length (leaf_list c.args.leaves) = search rules in
     leaves_stepped (slots_of s) t c.len-first.result c.len-count.result mark outs (map slot_of c.push_leaves.new.list.items) (map region_slot_of (with_items s.regions c.set_mark.new.list).items) items marked
-    (first ∙ sym (length-map s.slots.items slot_of)) (count ∙ sym (length-map c.args.leaves.items (λ (l : Leaf). plain.bare (plain_leaf l))))
+    (first ∙ sym (length-map s.slots.items slot_of)) (count ∙ sym (length-map (leaf_list c.args.leaves) (λ (l : Leaf). plain.bare (plain_leaf l))))
 
 pub returns-clause-afters : goal.returns-clause-afters
 returns-clause-afters c =
@@ -46,4 +47,4 @@ returns-clause-afters c =
     let count : c.len-first.result ≡ length s.slots.items = search rules in
     let all = length-map s.slots.items after in
     let first : c.len-first.result ≡ length afters + 0 = omega (arith, count, all) in
-    c.push_leaves.ensures.afters ∙ (λ i. old i ++ links (first i) (length c.args.leaves.items) (end i))
+    c.push_leaves.ensures.afters ∙ (λ i. old i ++ links (first i) (length (leaf_list c.args.leaves)) (end i))

@@ -3,7 +3,7 @@ use Rattle.tp_slots.specs.Row.{slots_in}
 use Rattle.tp_slots.specs.News.{bare_leaves}
 use Rattle.tp_slots.specs.Read.{slot_of}
 use Rattle.tp_slots.specs.Threads.{links}
-use Rattle.tp_slots.proofs.leaves.push_leaves.Given as goal
+use Rattle.tp_slots.proofs.leaves.push_list.Given as goal
 
 abbrev pub invariant-loop-leaf : goal.invariant-loop-leaf
 invariant-loop-leaf l =
