@@ -16,6 +16,7 @@ ghost use Rattle.tp_store.specs.Stock.{contents_in};
 
 use crate::leaves::{make_room, numbers};
 use crate::scene::{Scene, Slot, What};
+use smallvec::SmallVec;
 use std::alloc::Global;
 use std::mem;
 use std::rc::Rc;
@@ -120,7 +121,7 @@ pub fn become_bound(
     item: u64,
     local: (Text, bool, Phrase),
     store: &mut Store,
-) -> Result<Vec<u64>, NoMemory>
+) -> Result<SmallVec<u64, 3>, NoMemory>
     requires kept { IsWellKept scene.old }
     requires lives { Lives scene.old item }
     requires due { IsDueUnder (env_of local.2) (item_what scene.old item) }

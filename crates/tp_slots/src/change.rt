@@ -12,6 +12,7 @@ use crate::leaves::numbers;
 use crate::put::put;
 use crate::scene::{Holder, Scene, What};
 use crate::walk::items_inside;
+use smallvec::SmallVec;
 use std::alloc::Global;
 use std::rc::Rc;
 use tp_decide::{Leaf, Phrase};
@@ -35,7 +36,7 @@ fn become_holder(
     item: u64,
     first: Phrase,
     holder: Holder,
-) -> Result<Vec<u64>, NoMemory>
+) -> Result<SmallVec<u64, 3>, NoMemory>
     requires kept { IsWellKept scene.old }
     requires lives { Lives scene.old item }
     requires free { IsBare (item_what scene.old item) }
@@ -63,7 +64,7 @@ pub fn become_split(
     item: u64,
     first: Phrase,
     after: Phrase,
-) -> Result<Vec<u64>, NoMemory>
+) -> Result<SmallVec<u64, 3>, NoMemory>
     requires kept { IsWellKept scene.old }
     requires lives { Lives scene.old item }
     requires free { IsBare (item_what scene.old item) }
@@ -89,7 +90,7 @@ pub fn become_opened(
     item: u64,
     first: Phrase,
     piece: Phrase,
-) -> Result<Vec<u64>, NoMemory>
+) -> Result<SmallVec<u64, 3>, NoMemory>
     requires kept { IsWellKept scene.old }
     requires lives { Lives scene.old item }
     requires free { IsBare (item_what scene.old item) }
@@ -189,7 +190,7 @@ fn next_items(alloc: Global, what: &What, region: u64) -> Result<Vec<What>, NoMe
 }
 
 // The items that become live when an item with a region is reduced.
-fn moved_items(alloc: Global, scene: &Scene, item: u64) -> Result<Vec<u64>, NoMemory>
+fn moved_items(alloc: Global, scene: &Scene, item: u64) -> Result<SmallVec<u64, 3>, NoMemory>
     requires kept { IsWellKept scene.now }
     requires item { item < length scene.now.slots.items }
     ensures { IfOk result (λ v. v.items
@@ -204,8 +205,8 @@ fn moved_items(alloc: Global, scene: &Scene, item: u64) -> Result<Vec<u64>, NoMe
             }
             Holder::SplitProject { outer, .. } => {
                 let mut fresh = numbers(alloc, first, 1)?;
-                let mut woken = items_inside(alloc, scene, *outer)?;
-                fresh.append(&mut woken)?;
+                let woken = items_inside(alloc, scene, *outer)?;
+                fresh.extend_from_slice(woken.as_slice())?;
                 fresh.push(first + 1)?;
                 Ok(fresh)
             }
@@ -213,16 +214,16 @@ fn moved_items(alloc: Global, scene: &Scene, item: u64) -> Result<Vec<u64>, NoMe
                 let fresh = numbers(alloc, first, 3)?;
                 Ok(fresh)
             }
-            Holder::Closed(_) | Holder::Running { .. } => Ok(Vec::new(alloc)),
+            Holder::Closed(_) | Holder::Running { .. } => Ok(SmallVec::new(alloc)),
         },
-        What::Leaf(_) | What::Gone { .. } => Ok(Vec::new(alloc)),
+        What::Leaf(_) | What::Gone { .. } => Ok(SmallVec::new(alloc)),
     }
 }
 
 /// An item with a region is reduced: a split closes, and what follows it is due; the outer region of a projection begins its next piece.
 /// What became live is answered. Or nothing changes.
 #[tactic(auto, using(crate::proofs::Changing::unchanged_kept))]
-pub fn move_on(alloc: Global, scene: &mut Scene, item: u64) -> Result<Vec<u64>, NoMemory>
+pub fn move_on(alloc: Global, scene: &mut Scene, item: u64) -> Result<SmallVec<u64, 3>, NoMemory>
     requires kept { IsWellKept scene.old }
     requires lives { Lives scene.old item }
     requires holder { CanMove (item_what scene.old item) }

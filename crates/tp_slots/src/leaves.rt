@@ -18,17 +18,18 @@ ghost use Rattle.tp_slots.specs.Threads.{AreThreaded, afters_then, links};
 use crate::flags::raise;
 use crate::looks::pass_mark;
 use crate::scene::{Region, Scene, Slot, What};
+use smallvec::SmallVec;
 use std::alloc::Global;
 use tp_decide::{Leaf, Leaves, Side};
 use tp_value::NoMemory;
 
-/// So many numbers, from the first on.
+/// So many numbers, from the first on. No step but a long list of leaves brings more than three, and these need no memory of their own.
 #[tactic(auto, using(crate::proofs::Lists::range_more))]
-pub fn numbers(alloc: Global, first: u64, count: usize) -> Result<Vec<u64>, NoMemory>
+pub fn numbers(alloc: Global, first: u64, count: usize) -> Result<SmallVec<u64, 3>, NoMemory>
     requires { first + count < 2 ^ 64 }
     ensures { IfOk result (λ v. v.items ≡ range_with_len first count) }
 {
-    let mut numbers = Vec::new(alloc);
+    let mut numbers = SmallVec::new(alloc);
     for i in 0..count {
         numbers.push(first + i as u64)?;
     }
@@ -250,7 +251,7 @@ pub fn become_leaves(
     item: u64,
     news: Leaves,
     mark: Option<Side>,
-) -> Result<Vec<u64>, NoMemory>
+) -> Result<SmallVec<u64, 3>, NoMemory>
     requires kept { IsWellKept scene.old }
     requires lives { Lives scene.old item }
     requires free { IsBare (item_what scene.old item) }

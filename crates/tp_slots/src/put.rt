@@ -11,7 +11,7 @@ ghost use Rattle.tp_slots.specs.Replace.{home_in, replaced};
 ghost use Rattle.tp_slots.specs.Row.{AreBelow, AllBelow, begun, hold, hold_all, slots_in, stepped, held_after};
 ghost use Rattle.tp_slots.specs.Threads.{afters_then, links, nothing_after};
 
-use crate::leaves::{go, numbers, push_link, set_mark};
+use crate::leaves::{go, push_link, set_mark};
 use crate::scene::{Holder, Region, Scene, Slot, What};
 use std::alloc::Global;
 use tp_decide::Side;
@@ -38,6 +38,19 @@ pub fn new_region(roots: Vec<u64>) -> Region
     }
 }
 
+// So many numbers, from the first on.
+#[tactic(auto, using(crate::proofs::Lists::range_more))]
+fn roots(alloc: Global, first: u64, count: usize) -> Result<Vec<u64>, NoMemory>
+    requires { first + count < 2 ^ 64 }
+    ensures { IfOk result (λ v. v.items ≡ range_with_len first count) }
+{
+    let mut roots = Vec::with_capacity(alloc, count)?;
+    for i in 0..count {
+        roots.push(first + i as u64)?;
+    }
+    Ok(roots)
+}
+
 // A new region with so many items, where there are any.
 fn begin(alloc: Global, first: u64, count: usize) -> Result<Vec<Region>, NoMemory>
     requires { first + count < 2 ^ 64 }
@@ -48,7 +61,7 @@ fn begin(alloc: Global, first: u64, count: usize) -> Result<Vec<Region>, NoMemor
 {
     let mut regions = Vec::new(alloc);
     if count > 0 {
-        let roots = numbers(alloc, first, count)?;
+        let roots = roots(alloc, first, count)?;
         regions.push(new_region(roots))?;
     }
     Ok(regions)

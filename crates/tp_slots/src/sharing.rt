@@ -14,6 +14,7 @@ ghost use Rattle.tp_slots.specs.Reductions.{IsBare, becomes_leaves};
 
 use crate::leaves::{make_room, numbers, place_leaves};
 use crate::scene::Scene;
+use smallvec::SmallVec;
 use std::alloc::Global;
 use tp_decide::Leaves;
 use tp_store::{AddRefusal, Store};
@@ -29,7 +30,7 @@ pub fn become_sharing(
     news: Leaves,
     target: (Path, u32),
     store: &mut Store,
-) -> Result<(Vec<u64>, Facts), AddRefusal>
+) -> Result<(SmallVec<u64, 3>, Facts), AddRefusal>
     requires kept { IsWellKept scene.old }
     requires lives { Lives scene.old item }
     requires free { IsBare (item_what scene.old item) }
