@@ -2,6 +2,7 @@
 ghost use Rattle.std.specs.Prelude.{◌≡◌, []};
 
 use crate::order::Order;
+use smallvec::SmallVec;
 use std::alloc::Global;
 use std::marker::Model;
 use tp_kernel::LimitKind;
@@ -34,10 +35,35 @@ impl ItemIds {
     }
 }
 
+/// Numbers of items that a reduction made live, in order. Few need no memory of their own.
+#[derive(Debug, Drop)]
+pub struct NewIds {
+    pub items: SmallVec<u64, 3>,
+}
+
+impl Model for NewIds {
+    ghost use Rattle.std.specs.Prelude.{List, ℕ};
+
+    ghost Value = { List ℕ };
+
+    ghost view = { λ a. a.items.items };
+}
+
+impl NewIds {
+    /// No item.
+    pub fn new(alloc: Global) -> NewIds
+        ensures { result ≡ [] }
+    {
+        NewIds {
+            items: SmallVec::new(alloc),
+        }
+    }
+}
+
 /// What a reduction brought: the items that became live, the new facts, and the region that was marked.
 #[derive(Drop)]
 pub struct News {
-    pub items: ItemIds,
+    pub items: NewIds,
     pub facts: Learned,
     pub marked: Option<u64>,
 }

@@ -16,9 +16,10 @@ ghost use Rattle.tp_slots.specs.Kept.{IsWellKept, IsUnchanged, Lives, numbers_in
 ghost use Rattle.tp_step.specs.Answers.{moment_of, IsClash};
 ghost use Rattle.tp_step.specs.Chosen.{AllowsAddition, BindsThere, Carries, CarriesDecision, CarriesFacts, CarriesHolder, CarriesMove, FitsHolder, IsHolderOutcome};
 
-use crate::answer::{ItemIds, News, Tried};
+use crate::answer::{NewIds, News, Tried};
+use smallvec::SmallVec;
 use std::alloc::Global;
-use tp_decide::{Decision, HolderDecision, Leaf, Phrase, Side};
+use tp_decide::{Decision, HolderDecision, Leaves, Phrase, Side};
 use tp_kernel::LimitKind;
 use tp_scene::Clash;
 use tp_slots::{
@@ -29,11 +30,11 @@ use tp_store::{AddRefusal, Learned, Store};
 use tp_value::{Facts, NoMemory, Path, Text, Value};
 
 // These items became live, no fact is new, and perhaps a region was marked.
-fn reduced(alloc: Global, items: Vec<u64>, marked: Option<u64>) -> Tried
+fn reduced(alloc: Global, items: SmallVec<u64, 3>, marked: Option<u64>) -> Tried
     ensures { result ≡ Tried.Reduced (record { items = items.items; facts = []; marked = marked }) }
 {
     Tried::Reduced(News {
-        items: ItemIds { items },
+        items: NewIds { items },
         facts: Learned::listed(Facts {
             items: Vec::new(alloc),
         }),
@@ -66,7 +67,7 @@ fn become_news(
     alloc: Global,
     scene: &mut Scene,
     item: u64,
-    news: Vec<Leaf>,
+    news: Leaves,
     mark: Option<Side>,
     room: u64,
 ) -> Result<Tried, NoMemory>
@@ -192,9 +193,9 @@ fn learn(alloc: Global, scene: &mut Scene, item: u64, facts: Learned) -> Tried
     ensures answer { CarriesFacts facts scene.old scene.new item result }
     ensures kept { IsWellKept scene.new }
 {
-    vanish(alloc, scene, item);
+    vanish(scene, item);
     Tried::Reduced(News {
-        items: ItemIds::new(alloc),
+        items: NewIds::new(alloc),
         facts,
         marked: None,
     })
@@ -271,7 +272,7 @@ fn share_length(
     alloc: Global,
     scene: &mut Scene,
     item: u64,
-    shared: (Path, u32, Vec<Leaf>),
+    shared: (Path, u32, Leaves),
     store: &mut Store,
     room: u64,
 ) -> Result<Tried, NoMemory>
@@ -295,7 +296,7 @@ fn share_length(
     }
     match become_sharing(alloc, scene, item, news, (path, length), store) {
         Ok((items, new)) => Ok(Tried::Reduced(News {
-            items: ItemIds { items },
+            items: NewIds { items },
             facts: Learned::listed(new),
             marked: None,
         })),

@@ -15,7 +15,7 @@ mod seed;
 mod step;
 mod steps;
 
-pub use answer::{Course, ItemIds, News, Settled, Tally, Tried, Wait, Waits};
+pub use answer::{Course, ItemIds, NewIds, News, Settled, Tally, Tried, Wait, Waits};
 pub use ending::Ending;
 pub use first::start;
 pub use laws::first_waiting_is_named;

@@ -6,6 +6,7 @@ use Rattle.tp_scene.specs.Pick.{scene_after}
 use Rattle.tp_scene.specs.Step.{Reduction}
 use Rattle.tp_decide.specs.declared.decision.Decision.TheVariants as decision
 use Rattle.tp_decide.specs.Decided.{decided_outcome, mark_of, news_entries, plain_leaf}
+use Rattle.tp_decide.specs.NewLeaves.{leaf_list}
 use Rattle.tp_slots.specs.Kept.{numbers_in}
 use Rattle.tp_slots.specs.Plain.{bare}
 use Rattle.tp_slots.specs.Read.{scene_of}
@@ -25,7 +26,7 @@ returns-clause-ok c =
     let old = c.args.scene.now in
     let new = c.become_leaves.new.scene in
     let s = scene_of old in
-    let ls = c.args.news.items in
+    let ls = leaf_list c.args.news in
     let m = option_map mark_of c.args.mark in
     let make : S.Entries → ℕ → Reduction = λ es n. record { news = es; items = n; regions = 0; local = None; mark = m; facts = [] } in
     let r = make (news_entries ls (λ i. i + s.next_item) 0) (length ls) in
