@@ -124,7 +124,7 @@ decided_outcome facts n (decision.Binds name lasting body) =
 decided_outcome facts n (decision.Sets p v) = row.added (addition facts (facts_at p (tree v)))
 decided_outcome facts n (decision.Measures p k) = row.added (addition facts (fact p (Items k) ∷ []))
 decided_outcome facts n (decision.Shares to k news) =
-    adding_items (news_entries (leaf_list news) n.item 0) (length (leaf_list news))
+    adding_items (news_entries news.items n.item 0) (length news.items)
     (addition facts (fact to (Items k) ∷ []))
 decided_outcome facts n (decision.Waits first other) = row.waits first other
 decided_outcome facts n decision.Rests = row.rests

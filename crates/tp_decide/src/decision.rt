@@ -71,7 +71,7 @@ pub enum Decision {
     Shares {
         to: Path,
         length: u32,
-        news: Leaves,
+        news: Vec<Leaf>,
     },
     Waits(Cell, Option<Cell>),
     Rests,

@@ -10,7 +10,6 @@ ghost use Rattle.tp_decide.specs.Decided.{decided_outcome, news_entries};
 ghost use Rattle.tp_decide.specs.Fits.{SetsVariables};
 
 use crate::decision::{Decision, Leaf, due};
-use crate::leaves::Leaves;
 use std::alloc::Global;
 use std::rc::Rc;
 use tp_kernel::{Binding, Env, Expr, FaultKind, Formula};
@@ -99,7 +98,7 @@ fn share(
         Shape::Items(length) => {
             let to = if to_left { left.copy()? } else { right.copy()? };
             let env = both_places(alloc, left, right)?;
-            let news = Leaves::Many(item_equations(alloc, length, &env)?);
+            let news = item_equations(alloc, length, &env)?;
             Ok(Decision::Shares { to, length, news })
         }
     }

@@ -5,7 +5,6 @@ ghost use Rattle.tp_store.specs.Answers.{IsRefusal};
 ghost use Rattle.tp_store.specs.Facts.{fact};
 ghost use Rattle.tp_store.specs.Known.{IsVariableOf, addition, adds};
 ghost use Rattle.tp_store.specs.Stock.{contents_in};
-ghost use Rattle.tp_decide.specs.NewLeaves.{leaf_list};
 ghost use Rattle.tp_scene.specs.Pick.{HasAdded};
 ghost use Rattle.tp_slots.specs.Kept.{IsReducedTo, IsUnchanged, IsWellKept, Lives};
 ghost use Rattle.tp_slots.specs.News.{bare_leaves, new_items};
@@ -16,7 +15,7 @@ use crate::leaves::{make_room, numbers, place_leaves};
 use crate::scene::Scene;
 use smallvec::SmallVec;
 use std::alloc::Global;
-use tp_decide::Leaves;
+use tp_decide::{Leaf, Leaves};
 use tp_store::{AddRefusal, Store};
 use tp_value::{Facts, Path};
 
@@ -27,7 +26,7 @@ pub fn become_sharing(
     alloc: Global,
     scene: &mut Scene,
     item: u64,
-    news: Leaves,
+    news: Vec<Leaf>,
     target: (Path, u32),
     store: &mut Store,
 ) -> Result<(SmallVec<u64, 3>, Facts), AddRefusal>
@@ -36,7 +35,7 @@ pub fn become_sharing(
     requires free { IsBare (item_what scene.old item) }
     requires variable { IsVariableOf store.old.variables target.0.var }
     ensures kept { IsWellKept scene.new }
-    ensures scene { let reduction = becomes_leaves (scene_of scene.old) (bare_leaves (leaf_list news)) None in
+    ensures scene { let reduction = becomes_leaves (scene_of scene.old) (bare_leaves news.items) None in
         OnOk result (IsReducedTo item reduction scene.old scene.new) }
     ensures news { IfOk result (λ made.
         made.0.items ≡ new_items (scene_of scene.old) (scene_of scene.new)) }
@@ -53,6 +52,6 @@ pub fn become_sharing(
     let fresh = numbers(alloc, scene.slots.len() as u64, news.len())?;
     make_room(scene, news.len())?;
     let facts = store.add_length(&path, length)?;
-    place_leaves(scene, item, None, news);
+    place_leaves(scene, item, None, Leaves::Many(news));
     Ok((fresh, facts))
 }

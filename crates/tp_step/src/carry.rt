@@ -19,7 +19,7 @@ ghost use Rattle.tp_step.specs.Chosen.{AllowsAddition, BindsThere, Carries, Carr
 use crate::answer::{NewIds, News, Tried};
 use smallvec::SmallVec;
 use std::alloc::Global;
-use tp_decide::{Decision, HolderDecision, Leaves, Phrase, Side};
+use tp_decide::{Decision, HolderDecision, Leaf, Leaves, Phrase, Side};
 use tp_kernel::LimitKind;
 use tp_scene::Clash;
 use tp_slots::{
@@ -272,7 +272,7 @@ fn share_length(
     alloc: Global,
     scene: &mut Scene,
     item: u64,
-    shared: (Path, u32, Leaves),
+    shared: (Path, u32, Vec<Leaf>),
     store: &mut Store,
     room: u64,
 ) -> Result<Tried, NoMemory>

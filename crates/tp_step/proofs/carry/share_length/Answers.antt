@@ -10,7 +10,6 @@ use Rattle.tp_scene.specs.Scene as S
 use Rattle.tp_scene.specs.Pick.{scene_after}
 use Rattle.tp_scene.specs.Step.{Reduction}
 use Rattle.tp_decide.specs.Decided.{adding_items, news_entries, plain_leaf}
-use Rattle.tp_decide.specs.NewLeaves.{leaf_list}
 use Rattle.tp_slots.specs.Plain.{bare}
 use Rattle.tp_slots.specs.Read.{scene_of}
 use Rattle.tp_step.specs.Answers.{moment_of}
@@ -24,7 +23,7 @@ returns-in-Ok-clause-ok c =
     let new = c.become_sharing.new.scene in
     let k = contents_in c.args.store.now in
     let s = scene_of old in
-    let ls = leaf_list c.args.shared.2 in
+    let ls = c.args.shared.2.items in
     let entries = news_entries ls (λ i. i + s.next_item) 0 in
     let made = c.in-Ok.ensures in
     let make : S.Entries → ℕ → Reduction = λ es n. record { news = es; items = n; regions = 0; local = None; mark = None; facts = c.in-Ok.new } in
@@ -38,7 +37,7 @@ returns-in-Ok-clause-ok c =
 pub returns-then-room-eq0-clause-ok : goal.returns-then-room-eq0-clause-ok
 returns-then-room-eq0-clause-ok c =
     let m = moment_of c.args.scene.now (contents_in c.args.store.now) in
-    let ls = leaf_list c.args.shared.2 in
+    let ls = c.args.shared.2.items in
     let entries = news_entries ls (λ i. i + (scene_of c.args.scene.now).next_item) 0 in
     let o = addition c.args.store.now.facts (fact c.args.shared.0 (Items c.args.shared.1) ∷ []) in
     let P : ℕ → Type 0 = λ n. IfOk c.full_or_refused.result (Carries (adding_items entries (length ls) o) n m c.args.item m) in
