@@ -22,8 +22,8 @@ use tp_step::{
     ItemIds, News, Scene, Setting, Shows, Steps, Tried, has_item, items, mark, settled, shown,
     start, try_item,
 };
-use tp_store::Store;
-use tp_value::NoMemory;
+use tp_store::{Learned, LearnedKind, Store, value_facts};
+use tp_value::{Indices, NoMemory, Path};
 
 /// What a run of a program begins with.
 pub fn begin<'a>(
@@ -56,11 +56,25 @@ fn count(alloc: Global, scene: &Scene) -> Result<usize, NoMemory>
     Ok(live.items.len())
 }
 
+// How many facts are new.
+fn count_facts(alloc: Global, facts: &Learned) -> Result<usize, NoMemory> {
+    match &facts.kind {
+        LearnedKind::Listed(facts) => Ok(facts.items.len()),
+        LearnedKind::Whole(var, value) => {
+            let at = Indices {
+                items: Vec::new(alloc),
+            };
+            let facts = value_facts(alloc, &Path { var: *var, at }, value)?;
+            Ok(facts.len())
+        }
+    }
+}
+
 // How many items and facts are new, whether the region is marked, and how many items are live.
 fn brought(alloc: Global, news: &News, live: usize) -> Result<String, NoMemory> {
     let mark = if news.marked.is_some() { "!" } else { "" };
     let items = news.items.items.len();
-    let facts = news.facts.items.len();
+    let facts = count_facts(alloc, &news.facts)?;
     let text = format!(in alloc; "{items}+{facts}{mark} {live}, ")?;
     Ok(text)
 }

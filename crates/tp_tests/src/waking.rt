@@ -100,10 +100,11 @@ fn woken(
     members(alloc, &ready)
 }
 
-// What may be known: that a place has a shape, or that the end of a region is known.
+// What may be known: that a place has a shape, that a variable has some whole value, or that the end of a region is known.
 #[derive(Clone, Copy)]
 enum Known {
     Part(Place, Shape),
+    Whole(u64),
     End(u64),
 }
 
@@ -112,6 +113,10 @@ fn cause(alloc: Global, known: Known) -> Result<Cause, NoMemory> {
         Known::Part(place, shape) => {
             let path = path(alloc, place.0, place.1)?;
             Ok(Cause::Known(Fact { path, shape }))
+        }
+        Known::Whole(number) => {
+            let path = path(alloc, number, &[])?;
+            Ok(Cause::Given(path.var))
         }
         Known::End(region) => Ok(Cause::Marked(region)),
     }
@@ -129,7 +134,7 @@ fn woken_twice(alloc: Global, first: Known, then: Known) -> Result<String, NoMem
     Ok(text)
 }
 
-use Known::{End, Part};
+use Known::{End, Part, Whole};
 
 const ONE: Shape = Shape::Num(1);
 
@@ -138,7 +143,7 @@ const TWO: Shape = Shape::Items(2);
 const THREE: Shape = Shape::Items(3);
 
 // What is known first, what is known then, and the items that become ready by each.
-const ROWS: [(Known, Known, &str); 12] = [
+const ROWS: [(Known, Known, &str); 15] = [
     // a variable's own fact wakes what waits for it, once; one of its items tells nothing of its shape
     (Part((0, &[]), ONE), End(0), " [0, 7] [3]"),
     (Part((0, &[5]), ONE), Part((0, &[]), ONE), " [] [0, 7]"),
@@ -153,6 +158,10 @@ const ROWS: [(Known, Known, &str); 12] = [
     // either of two is enough, and then the other wakes nothing
     (Part((2, &[]), ONE), Part((3, &[]), ONE), " [2] []"),
     (Part((3, &[]), ONE), Part((2, &[]), ONE), " [2] []"),
+    // a whole value wakes what waits for the variable or for an item of its value, and for no other variable
+    (Whole(0), End(0), " [0, 7] [3]"),
+    (Whole(1), Part((1, &[2]), ONE), " [1] []"),
+    (Whole(4), Whole(3), " [] [2]"),
     // the same of ends of regions
     (End(0), End(1), " [3, 7] [4]"),
     (End(2), Part((0, &[]), ONE), " [] [0, 7]"),
