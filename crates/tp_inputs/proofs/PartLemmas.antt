@@ -4,8 +4,6 @@ use Rattle.std.specs.Prelude.{IfOk}
 use Rattle.std.specs.List.{prefix_len}
 use Rattle.std.specs.Char.{is_ascii_lowercase}
 use Rattle.std.proofs.lemmas.Bool.Decides.{nat_tests}
-use Rattle.tp_value.specs.declared.reading.ReadValue.{ReadValue}
-use Rattle.tp_value.specs.declared.reading.ReadValue.TheVariants.{NoMemory}
 use Rattle.tp_value.specs.declared.refusal.NoMemory.{NoMemory as Want}
 use Rattle.tp_value.specs.Spelling.{is_value_blank, IsRead}
 use Rattle.tp_value.specs.Reading.{Answer, found, refused, value_answer}
@@ -19,10 +17,9 @@ use Rattle.tp_inputs.specs.declared.fault.Fault.TheVariants as f
 use Rattle.tp_inputs.specs.declared.part.FoundPart.{FoundPart}
 use Rattle.tp_inputs.specs.declared.span.Span.{Span}
 use Rattle.tp_inputs.specs.Spans.{is_given}
-use Rattle.tp_inputs.specs.Read.{part_of}
 use Rattle.tp_inputs.specs.Parts.{BeginsPort, IsNewPort, is_set_apart, pair}
 use Rattle.tp_inputs.specs.Faults.{no_port, twice, no_value, not_apart}
-use Rattle.tp_inputs.specs.FirstPart.{LinePart, Blank, Given, Faulty, BeginsPart, port_len, refused_part, value_part, port_part, pair_of_len, pair_part, first_part}
+use Rattle.tp_inputs.specs.FirstPart.{LinePart, Blank, Given, Faulty, BeginsPart, port_len, value_part, asked_part, port_part, pair_of_len, pair_part, first_part}
 
 -- what `port_len` found
 abbrev FindsPort : List ℕ → Option ℕ → Type 0
@@ -127,11 +124,16 @@ module _ (span : Span) (table : InputTable) where
   part_one z (Faulty _) (no_value {n = n} {e = e} is new told) = sym (fresh_part z n (refused e) is new told)
   part_one z (Faulty _) (not_apart {n = n} {m = m} {t = t} is new read e) = sym (fresh_part z n (found t m) is new (read_found z (n + 1) m t read) ∙ ap (λ b. cond b (Given (take n z) t m) (Faulty f.Bad)) e)
 
--- what a refused value gives
-pub refused_value : (z port : List ℕ) (a : Answer) (e : ReadValue) (r : Result FoundPart Want) → IfOk r (λ p. part_of p ≡ refused_part e) → IfOk r (λ _. e ≢ NoMemory) → (e ≢ NoMemory → a ≡ refused e)
-    → IfOk r (λ p. part_of p ≡ value_part z port a)
-refused_value z port a e (Ok p) is told says = is ∙ sym (ap (value_part z port) (says told))
-refused_value z port a e (Err w) is told says = tt
+-- ---- what is found where the ports aren't asked, of a port that is given already or is new
+
+pub asked_first : (z port : List ℕ) (n : ℕ) (span : Span) (table : InputTable) → port_len z ≡ Some n → port ≡ take n z → asked_part z port (value_answer z (n + 1)) (is_given table span port) ≡ pair_part span table z
+unfolding pair_part
+asked_first z port n span table e same = ap (λ p. asked_part z p (value_answer z (n + 1)) (is_given table span p)) same ∙ ap (pair_of_len span table z) (sym e)
+
+-- what was found has what follows from what is said of it
+pub each_found : {P Q : FoundPart → Type 0} (r : Result FoundPart Want) → ((p : FoundPart) → P p → Q p) → IfOk r P → IfOk r Q
+each_found (Ok p) f is = f p is
+each_found (Err w) f is = tt
 
 -- ---- each part but a fault has some bytes of the line
 

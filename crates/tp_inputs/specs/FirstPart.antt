@@ -2,7 +2,6 @@
 use Rattle.std.specs.Prelude.{◌≡◌, ℕ, ◌+◌, ◌==◌, Bool, true, false, ◌&&◌, if◌then◌else◌, nat_le, List, take, slice_index, Option, Some, None, is_none}
 use Rattle.std.specs.List.{prefix_len}
 use Rattle.std.specs.Char.{is_ascii_lowercase}
-use Rattle.tp_value.specs.declared.reading.ReadValue.{ReadValue}
 use Rattle.tp_value.specs.Tree.{Tree}
 use Rattle.tp_value.specs.Spelling.{is_value_blank}
 use Rattle.tp_value.specs.Reading.{Answer, found, refused, value_answer}
@@ -39,20 +38,20 @@ is_port z n =
 unfoldable pub port_len : List ℕ → Option ℕ
 port_len z = let n = prefix_len is_name_byte z in if is_port z n then Some n else None
 
--- the fault of a value that is refused
-abbrev pub refused_part : ReadValue → LinePart
-refused_part e = Faulty (fault_of e)
-
 -- the pair of the port, or a fault
 abbrev pub value_part : List ℕ → List ℕ → Answer → LinePart
 value_part z port (found t m) =
     if is_set_apart z m then Given port t m else Faulty f.Bad
-value_part z port (refused e) = refused_part e
+value_part z port (refused e) = Faulty (fault_of e)
 
--- the part of a port that is given already, or that is new
+-- the part of a port that is given already, or that is new, where this is read behind it
+abbrev pub asked_part : List ℕ → List ℕ → Answer → Bool → LinePart
+asked_part z port answer true = Faulty f.Twice
+asked_part z port answer false = value_part z port answer
+
+-- the part of the port that has the first n bytes
 abbrev pub port_part : List ℕ → ℕ → Bool → LinePart
-port_part z n true = Faulty f.Twice
-port_part z n false = value_part z (take n z) (value_answer z (n + 1))
+port_part z n b = asked_part z (take n z) (value_answer z (n + 1)) b
 
 abbrev pub pair_of_len : Span → InputTable → List ℕ → Option ℕ → LinePart
 pair_of_len span table z None = Faulty f.Bad

@@ -1,5 +1,5 @@
 -- The plain table that a table of inputs stands for, and what the code answers of a line.
-use Rattle.std.specs.Prelude.{ℕ, List}
+use Rattle.std.specs.Prelude.{ℕ, List, if◌then◌else◌}
 use Rattle.tp_value.specs.Read.{tree}
 use Rattle.tp_meaning.specs.Inputs.{InputTable}
 use Rattle.tp_inputs.specs.declared.inputs.Inputs.{Inputs}
@@ -15,15 +15,19 @@ use Rattle.tp_inputs.specs.declared.span.Head.{Head}
 use Rattle.tp_inputs.specs.FirstPart.{LinePart, Blank, Given, Faulty}
 use Rattle.tp_inputs.specs.Faults.{BeginsFault, StopsAt, HasFault}
 use Rattle.tp_inputs.specs.Model.{table_of}
+use Rattle.tp_inputs.specs.Spans.{is_given}
 
 abbrev pub inputs_of : Inputs → InputTable
 inputs_of t = table_of t.ports
 
--- the part that the code found
-abbrev pub part_of : FoundPart → LinePart
-part_of p.Blank = Blank
-part_of (p.Pair port value len) = Given port (tree value) len
-part_of (p.Fault fault) = Faulty fault
+-- the part that the code found, in a line that speaks for this span behind this table
+abbrev pub part_of : Span → InputTable → FoundPart → LinePart
+part_of span table p.Blank = Blank
+part_of span table (p.Pair port value len) =
+    if is_given table span port then Faulty Twice else Given port (tree value) len
+part_of span table (p.Valueless port fault) =
+    if is_given table span port then Faulty Twice else Faulty fault
+part_of span table (p.Fault fault) = Faulty fault
 
 -- the refusal of a text whose line with that number is refused so
 abbrev pub refusal_in : LineRefusal → ℕ → InputsRefusal

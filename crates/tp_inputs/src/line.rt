@@ -28,11 +28,22 @@ fn take_part(
     ensures refused { IfErr result (λ refusal.
         IsPartRefusal span (table_of ports.old) text.now refusal) }
 {
-    match first_part(alloc, text, span, ports)? {
+    match first_part(alloc, text)? {
         FoundPart::Blank => Ok(1),
         FoundPart::Pair(port, value, len) => {
-            ports.give(alloc, span, port, value)?;
-            Ok(len)
+            if ports.give(alloc, span, port, value)? {
+                Ok(len)
+            } else {
+                Err(LineRefusal::Fault(Fault::Twice))
+            }
+        }
+        FoundPart::Valueless(port, fault) => {
+            // The second value of a port is at fault whatever it is.
+            if ports.has(span, &port) {
+                Err(LineRefusal::Fault(Fault::Twice))
+            } else {
+                Err(LineRefusal::Fault(fault))
+            }
         }
         FoundPart::Fault(fault) => Err(LineRefusal::Fault(fault)),
     }

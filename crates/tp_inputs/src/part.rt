@@ -1,28 +1,29 @@
 // What a line of inputs begins with.
 ghost use Rattle.std.specs.Prelude.{◌≡◌, ◌≢◌, ◌+◌, ◌<◌, ◌≤◌, [], length, take, true, IfOk, IfSome, Some};
 ghost use Rattle.tp_value.specs.declared.reading.ReadValue.TheVariants.{NoMemory as refused_memory};
-ghost use Rattle.tp_value.specs.Read.{tree};
 ghost use Rattle.tp_value.specs.Reading.{value_answer};
 ghost use Rattle.tp_inputs.specs.Parts.{is_set_apart};
 ghost use Rattle.tp_inputs.specs.FirstPart as spec;
-ghost use Rattle.tp_inputs.specs.Canonical.{are_ports};
-ghost use Rattle.tp_inputs.specs.Model.{table_of};
+ghost use Rattle.tp_inputs.specs.Faults.{fault_of};
+ghost use Rattle.tp_inputs.specs.Spans.{is_given};
+ghost use Rattle.tp_inputs.specs.declared.span.Span.{Span};
+ghost use Rattle.tp_meaning.specs.Inputs.{InputTable};
 ghost use Rattle.tp_inputs.specs.Read.{part_of};
 
 use crate::fault::Fault;
 use crate::head::is_blank;
-use crate::ports::Ports;
-use crate::span::Span;
 use std::alloc::Global;
 use tp_lex::{NAME_LIMIT, name_len, word_of};
 use tp_value::{NoMemory, ReadValue, Text, Value, read_value};
 
-/// What a line begins with.
+/// What a line begins with, where it isn't asked whether the port has a value already.
 #[derive(Drop)]
 pub enum FoundPart {
     Blank,
     /// A port, its value, and how many bytes the pair has.
     Pair(Text, Value, usize),
+    /// A port, and the fault of what stands for its value.
+    Valueless(Text, Fault),
     Fault(Fault),
 }
 
@@ -50,74 +51,63 @@ fn port_len(text: &[u8]) -> Option<usize>
 }
 
 // What a value that is refused makes of its line.
-fn refused_part(refusal: ReadValue) -> Result<FoundPart, NoMemory>
-    ensures part { IfOk result (λ part. part_of part ≡ spec.refused_part refusal) }
+fn fault_of(refusal: ReadValue) -> Result<Fault, NoMemory>
+    ensures fault { IfOk result (λ fault. fault ≡ fault_of refusal) }
     ensures told { IfOk result (λ _. refusal ≢ refused_memory) }
 {
     match refusal {
-        ReadValue::NoValue { .. } | ReadValue::TooLarge { .. } => Ok(FoundPart::Fault(Fault::Bad)),
-        ReadValue::TooLong { .. } | ReadValue::TooDeep { .. } => {
-            Ok(FoundPart::Fault(Fault::TooLong))
-        }
+        ReadValue::NoValue { .. } | ReadValue::TooLarge { .. } => Ok(Fault::Bad),
+        ReadValue::TooLong { .. } | ReadValue::TooDeep { .. } => Ok(Fault::TooLong),
         ReadValue::NoMemory => Err(NoMemory),
     }
 }
 
-// The pair of the port whose value comes behind the first bytes.
+// The pair of the port, or the fault of what stands behind the first bytes as its value.
 fn valued_part(alloc: Global, text: &[u8], port: Text, from: usize) -> Result<FoundPart, NoMemory>
     requires { from ≤ length text.now }
-    ensures { IfOk result (λ part.
-        part_of part ≡ spec.value_part text.now port (value_answer text.now from)) }
+    ensures { IfOk result (λ part. (span : Span) (table : InputTable)
+        → part_of span table part
+        ≡ spec.asked_part text.now port (value_answer text.now from) (is_given table span port)) }
 {
     match read_value(alloc, text, from) {
         Ok((value, len)) => {
             if is_set_apart(text, len) {
                 Ok(FoundPart::Pair(port, value, len))
             } else {
-                Ok(FoundPart::Fault(Fault::Bad))
+                Ok(FoundPart::Valueless(port, Fault::Bad))
             }
         }
-        Err(refusal) => refused_part(refusal),
+        Err(refusal) => Ok(FoundPart::Valueless(port, fault_of(refusal)?)),
     }
 }
 
 // What comes first that is no blank.
 #[tactic(auto, unfolding(crate::specs::FirstPart::pair_part))]
-fn pair_part(alloc: Global, text: &[u8], span: Span, ports: &Ports) -> Result<FoundPart, NoMemory>
-    requires some { text.now ≢ [] }
-    requires ports { are_ports (table_of ports.now) ≡ true }
-    ensures { IfOk result (λ part.
-        part_of part ≡ spec.pair_part span (table_of ports.now) text.now) }
+fn pair_part(alloc: Global, text: &[u8]) -> Result<FoundPart, NoMemory>
+    requires { text.now ≢ [] }
+    ensures { IfOk result (λ part. (span : Span) (table : InputTable)
+        → part_of span table part ≡ spec.pair_part span table text.now) }
 {
     match port_len(text) {
         Some(len) => {
             let port = Text::from_slice(alloc, &text[..len])?;
-            if ports.has(span, &port) {
-                Ok(FoundPart::Fault(Fault::Twice))
-            } else {
-                valued_part(alloc, text, port, len + 1)
-            }
+            valued_part(alloc, text, port, len + 1)
         }
         None => Ok(FoundPart::Fault(Fault::Bad)),
     }
 }
 
-/// What the rest of a line begins with that speaks for this span, behind what the ports have so far.
+/// What the rest of a line begins with, whatever span it speaks for and whatever the ports have so
+/// far.
 #[tactic(auto, unfolding(crate::specs::FirstPart::first_part))]
-pub fn first_part(
-    alloc: Global,
-    text: &[u8],
-    span: Span,
-    ports: &Ports,
-) -> Result<FoundPart, NoMemory>
-    requires some { text.now ≢ [] }
-    requires ports { are_ports (table_of ports.now) ≡ true }
-    ensures { IfOk result (λ part.
-        part_of part ≡ spec.first_part span (table_of ports.now) text.now) }
+pub fn first_part(alloc: Global, text: &[u8]) -> Result<FoundPart, NoMemory>
+    requires { text.now ≢ [] }
+    ensures { IfOk result (λ part. (span : Span) (table : InputTable)
+        → part_of span table part ≡ spec.first_part span table text.now) }
 {
     if is_blank(text[0]) {
         Ok(FoundPart::Blank)
     } else {
-        pair_part(alloc, text, span, ports)
+        pair_part(alloc, text)
     }
 }

@@ -1,5 +1,5 @@
 // What is said of each port.
-ghost use Rattle.std.specs.Prelude.{◌≡◌, [], None, Some, true, false, IfOk, OnOk};
+ghost use Rattle.std.specs.Prelude.{◌≡◌, [], None, Some, true, false, not, IfOk, OnOk, IsTrue};
 ghost use Rattle.std.specs.Option.{option_map, option_or};
 ghost use Rattle.tp_value.specs.Read.{tree};
 ghost use Rattle.tp_meaning.specs.Inputs.{row_value, input_at};
@@ -110,29 +110,35 @@ impl Ports {
         }
     }
 
-    /// Gives the port the value for the span, for which it has none yet.
+    /// Gives the port the value for the span, unless it has one for one of its states, and tells whether it had none.
     pub fn give(
         &mut self,
         alloc: Global,
         span: Span,
         port: Text,
         value: Value,
-    ) -> Result<(), NoMemory>
+    ) -> Result<bool, NoMemory>
         requires ports { are_ports (table_of self.old) ≡ true }
         requires span { IsSpan span }
-        requires free { is_given (table_of self.old) span port ≡ false }
-        ensures { OnOk result
-            (GivesValue span port (tree value) (table_of self.old) (table_of self.new)) }
+        ensures told { IfOk result (λ is_new.
+            is_new ≡ not (is_given (table_of self.old) span port)) }
+        ensures gives { IfOk result (λ is_new. IsTrue is_new
+            → GivesValue span port (tree value) (table_of self.old) (table_of self.new)) }
     {
         match self.by_name.get_mut(port.as_slice()) {
-            Some(known) => known.give(span, value),
+            Some(known) => {
+                if known.meets(span) {
+                    return Ok(false);
+                }
+                known.give(span, value)?;
+            }
             None => {
                 let mut new = Port::new(alloc);
                 new.give(span, value)?;
                 self.by_name.insert(port.items, new)?;
-                Ok(())
             }
         }
+        Ok(true)
     }
 }
 

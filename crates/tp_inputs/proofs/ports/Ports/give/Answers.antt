@@ -1,5 +1,4 @@
-use Rattle.std.proofs.Common.{refl, ap, sym, subst, ◌∙◌, ◌≡◌, true, cond, List, ℕ, [], Some, None, Result, Ok, Err}
-use Rattle.std.specs.Prelude.{OnOk}
+use Rattle.std.proofs.Common.{refl, ap, sym, subst, ◌∙◌, ◌≡◌, true, false, not, cond, List, ℕ, [], Some, None}
 use Rattle.std.specs.Ordering.{nat_cmp, is_eq}
 use Rattle.std.specs.declared.cmp.Ordering.{Ordering}
 use Rattle.std.specs.Cmp.Lexicographic.{slice_cmp}
@@ -9,13 +8,12 @@ use Rattle.std.specs.BTreeMap.{insert_entry}
 use Rattle.std.specs.Option.{option_map}
 use Rattle.tp_value.specs.Tree.{Tree}
 use Rattle.tp_value.specs.Read.{tree}
-use Rattle.tp_value.specs.declared.refusal.NoMemory.{NoMemory}
 use Rattle.tp_meaning.specs.Inputs.{row_value}
 use Rattle.tp_inputs.specs.declared.span.Span.{Span}
 use Rattle.tp_inputs.specs.declared.span.Span.TheVariants.{States, Others}
 use Rattle.tp_inputs.specs.declared.ports.Port.{Port}
 use Rattle.tp_inputs.specs.Canonical.{are_ports}
-use Rattle.tp_inputs.specs.Spans.{span_has, is_others, port_meets, GivesValue}
+use Rattle.tp_inputs.specs.Spans.{span_has, is_others, port_meets, is_given, GivesValue}
 use Rattle.tp_inputs.specs.Model.{rows_of, default_of, named_port}
 use Rattle.tp_inputs.specs.Moves.{GivesPort}
 use Rattle.tp_inputs.proofs.PortLemmas.{Key, key_cmp, Entries, name_cmp, table_in, Changes, named, met, rows_apart, gives, set_changes, insert_changes, set_ports, insert_ports, names_ordered, rows_in, default_in}
@@ -30,15 +28,17 @@ give-requires-clause-rows c =
     let es = c.args.self.now.by_name.entries in
     rows_apart es c.args.port c.in-Some.known.now c.requires.ports (ap (λ z. named z es) (sym c.as_slice.ensures) ∙ sym c.in-Some.ensures.value)
 
-pub give-requires-clause-free : goal.give-requires-clause-free
-give-requires-clause-free c =
+pub meets-requires : goal.meets-requires
+meets-requires c =
     let es = c.args.self.now.by_name.entries in
-    let some : named c.args.port es ≡ Some c.in-Some.known.now = ap (λ z. named z es) (sym c.as_slice.ensures) ∙ sym c.in-Some.ensures.value in
-    named_meets [] c.args.port c.args.span c.in-Some.known.now ∙ (sym (met es c.args.span c.args.port ∙ ap (λ o. port_meets (option_map (named_port c.args.port) o) c.args.span) some) ∙ c.requires.free)
+    rows_apart es c.args.port c.in-Some.known.now c.requires.ports (ap (λ z. named z es) (sym c.as_slice.ensures) ∙ sym c.in-Some.ensures.value)
 
-on_ok : {A B : Type 0} (r : Result (Unit {0}) NoMemory) → (A → B) → OnOk r A → OnOk r B
-on_ok (Ok u) f a = f a
-on_ok (Err e) f a = tt
+-- what is asked of a port that is there, and of one that isn't
+found_given : (es : Entries) (span : Span) (port : List ℕ) (p : Port) → named port es ≡ Some p → is_given (table_in es) span port ≡ port_meets (Some (named_port [] p)) span
+found_given es span port p some = met es span port ∙ (ap (λ o. port_meets (option_map (named_port port) o) span) some ∙ named_meets port [] span p)
+
+none_given : (es : Entries) (span : Span) (port : List ℕ) → named port es ≡ None → is_given (table_in es) span port ≡ false
+none_given es span port none = met es span port ∙ ap (λ o. port_meets (option_map (named_port port) o) span) none
 
 module _ (cmp : Key → Key → Ordering) (is : (a b : Key) → cmp a b ≡ slice_cmp nat_cmp a.items b.items) (es : Entries) (span : Span) (v : Tree) (w : Port) (ports : are_ports (table_in es) ≡ true) where
   set_gives : (slice port : List ℕ) (p : Port) (fs : Entries) → slice ≡ port → named slice es ≡ Some p → fs ≡ set_value (λ k. is_eq (name_cmp slice k)) es w → IsStrictlySortedBy cmp (keys_of fs)
@@ -61,16 +61,31 @@ module _ (cmp : Key → Key → Ordering) (is : (a b : Key) → cmp a b ≡ slic
       (λ n. g.has n ∙ (ap (λ rs. cond (span_has span n) (Some v) (row_value rs n)) no_rows ∙ ap (λ o. cond (span_has span n) (Some v) (row_value (rows_in o) n)) (sym none)))
       (g.default ∙ (ap (cond (is_others span) (Some v)) no_default ∙ ap (λ o. cond (is_others span) (Some v) (default_in o)) (sym none))))
 
-pub returns-in-Some : goal.returns-in-Some
-returns-in-Some c =
+pub returns-then-meets-clause-told : goal.returns-then-meets-clause-told
+returns-then-meets-clause-told c =
+    let es = c.args.self.now.by_name.entries in
+    sym (ap not (found_given es c.args.span c.args.port c.in-Some.known.now (ap (λ z. named z es) (sym c.as_slice.ensures) ∙ sym c.in-Some.ensures.value) ∙ (sym c.meets.ensures ∙ c.if-meets.true)))
+
+pub returns-in_ok-give-in-Some-clause-told : goal.returns-in_ok-give-in-Some-clause-told
+returns-in_ok-give-in-Some-clause-told c =
+    let es = c.args.self.now.by_name.entries in
+    sym (ap not (found_given es c.args.span c.args.port c.in-Some.known.now (ap (λ z. named z es) (sym c.as_slice.ensures) ∙ sym c.in-Some.ensures.value) ∙ (sym c.meets.ensures ∙ c.if-meets.false)))
+
+pub returns-in_ok-give-in-Some-clause-gives : goal.returns-in_ok-give-in-Some-clause-gives
+returns-in_ok-give-in-Some-clause-gives c = λ given.
     let es = c.args.self.now.by_name.entries in
     let slice = c.as_slice.result.now in
     let w = c.give.new.self in
     let written = c.get_mut.follows.holds w in
-    on_ok c.give.result (set_gives key_cmp (λ a b. refl) es c.args.span (tree c.args.value) w c.requires.ports slice c.args.port c.in-Some.known.now _ c.as_slice.ensures (sym c.in-Some.ensures.value) written.0 written.4) c.give.ensures
+    set_gives key_cmp (λ a b. refl) es c.args.span (tree c.args.value) w c.requires.ports slice c.args.port c.in-Some.known.now _ c.as_slice.ensures (sym c.in-Some.ensures.value) written.0 written.4 c.in_ok-give-in-Some.ensures
 
-pub returns-in_ok-insert-in-None : goal.returns-in_ok-insert-in-None
-returns-in_ok-insert-in-None c =
+pub returns-in_ok-insert-in-None-clause-told : goal.returns-in_ok-insert-in-None-clause-told
+returns-in_ok-insert-in-None-clause-told c =
+    let es = c.args.self.now.by_name.entries in
+    sym (ap not (none_given es c.args.span c.args.port (ap (λ z. named z es) (sym c.as_slice.ensures) ∙ sym c.in-None.ensures.value)))
+
+pub returns-in_ok-insert-in-None-clause-gives : goal.returns-in_ok-insert-in-None-clause-gives
+returns-in_ok-insert-in-None-clause-gives c = λ given.
     let es = c.args.self.now.by_name.entries in
     let slice = c.as_slice.result.now in
     let w = c.give-in-None.new.self in
