@@ -27,7 +27,7 @@ use Rattle.tp_store.proofs.Paths.{same_path-decides}
 use Rattle.tp_store.proofs.Parts.{of_in, shapes_swap}
 use Rattle.tp_store.proofs.Same.{AgreeAt, same_kept, same_excluded, same_full, same_first, same_addition}
 use Rattle.tp_store.proofs.Separate.{value_apart}
-use Rattle.tp_store.proofs.WholeValues.{agree_whole, agree_parts, all_apart, all_kinds, none_of_values, of_another, none_found, wholes_beside, wholes_more, left_others, not_free, facts_more, variable_of}
+use Rattle.tp_store.proofs.WholeValues.{agree_whole, agree_parts, all_apart, all_kinds, none_of_values, of_another, none_found, wholes_beside, wholes_more, left_others, not_free, facts_more, variable_of, whole_limit}
 use Rattle.tp_store.proofs.WholeLooks.{kept_whole, excluded_whole, other_clashes, no_news, value_full}
 
 -- what holds of a portion
@@ -74,6 +74,10 @@ module _ (b : Bool) (m : FactsOfKind) (es : List (ℕ × Rc Value Global)) (v : 
 
     pub addition_beside : (fs : List Fact) → AreOf x fs → addition m.facts fs ≡ addition v.facts fs
     addition_beside fs a = sym (same_addition v.facts m.facts fs seen_apart h.1 (λ f i. subst (λ y. AgreeAt y v.facts m.facts) (sym (of_in x fs a f i)) beside))
+
+  -- a value that is found may be read
+  pub found_limit : (x : VarId) (w : Rc Value Global) → whole_value b es x ≡ Some w → (u : Value) → u ≡ w.value → is_within_list_limit (tree u) ≡ true
+  found_limit x w found u q = ap (λ y. is_within_list_limit (tree y)) q ∙ whole_limit b es m.facts h.3 x w found
 
   -- and of one with such a value
   module _ (x : VarId) (w : Rc Value Global) (found : whole_value b es x ≡ Some w) where

@@ -1,19 +1,15 @@
 use Rattle.std.proofs.Common.{ap, ap₂, sym, ◌∙◌}
 use Rattle.std.specs.Option.{option_copied}
-use Rattle.tp_value.specs.Limits.{is_within_list_limit}
 use Rattle.tp_value.specs.Read.{tree}
 use Rattle.tp_value.specs.Shape.{shape_at_path}
 use Rattle.tp_store.specs.Facts.{is_excluded}
 use Rattle.tp_store.specs.Known.{is_none}
-use Rattle.tp_store.proofs.WholeValues.{whole_limit}
 use Rattle.tp_store.proofs.WholeLooks.{none_seen}
-use Rattle.tp_store.proofs.PortionViews.{excluded_alone, excluded_beside}
+use Rattle.tp_store.proofs.PortionViews.{found_limit, excluded_alone, excluded_beside}
 use Rattle.tp_store.proofs.portion.Portion.excludes.Goals as goal
 
 pub shape_inside-requires : goal.shape_inside-requires
-shape_inside-requires c =
-    let found = sym c.whole_of.ensures ∙ ap option_copied c.in-Some.is in
-    ap (λ w. is_within_list_limit (tree w)) c.deref.ensures ∙ whole_limit c.self.inside.lasting c.self.inside.wholes.entries c.self.inside.parts.facts c.self.invariant.3 _ _ found
+shape_inside-requires c = found_limit c.self.inside.lasting c.self.inside.parts c.self.inside.wholes.entries _ c.self.view_is c.self.invariant _ _ (sym c.whole_of.ensures ∙ ap option_copied c.in-Some.is) _ c.deref.ensures
 
 pub returns-in-Some : goal.returns-in-Some
 returns-in-Some c =

@@ -2,7 +2,6 @@ use Rattle.std.proofs.Common.{◌≡◌, Option, Some, refl, ap, ap₂, sym, ◌
 use Rattle.std.specs.Option.{option_copied}
 use Rattle.std.specs.Result.{IfOk}
 use Rattle.tp_value.specs.declared.path.Fact.{Fact}
-use Rattle.tp_value.specs.Limits.{is_within_list_limit}
 use Rattle.tp_value.specs.Read.{tree}
 use Rattle.tp_value.specs.Shape.{shape_at_path}
 use Rattle.tp_store.specs.Facts.{kept_shape}
@@ -10,8 +9,7 @@ use Rattle.tp_store.specs.Known.{first_clash}
 use Rattle.tp_store.specs.Wholes.{facts_of_value}
 use Rattle.tp_store.proofs.FactMapLemmas.{kept_already}
 use Rattle.tp_store.proofs.Paths.{same_shape-decides}
-use Rattle.tp_store.proofs.WholeValues.{whole_limit}
-use Rattle.tp_store.proofs.PortionViews.{seen_apart, kept_noted, first_alone, first_beside}
+use Rattle.tp_store.proofs.PortionViews.{found_limit, seen_apart, kept_noted, first_alone, first_beside}
 use Rattle.tp_store.proofs.portion.Portion.first_clash.Goals as goal
 
 pub returns-in_default : goal.returns-in_default
@@ -22,9 +20,7 @@ returns-in_default c =
     subst (λ (o : Option Fact). IfOk c.first_clash.result (λ first. first ≡ o)) (first_beside c.self.inside.lasting c.self.inside.parts c.self.inside.wholes.entries _ c.self.view_is c.self.invariant _ none f of) c.first_clash.ensures
 
 pub has_shape-requires : goal.has_shape-requires
-has_shape-requires c =
-    let found = sym c.whole_of.ensures ∙ ap option_copied c.in-Some.is in
-    ap (λ w. is_within_list_limit (tree w)) c.deref.ensures ∙ whole_limit c.self.inside.lasting c.self.inside.wholes.entries c.self.inside.parts.facts c.self.invariant.3 _ _ found
+has_shape-requires c = found_limit c.self.inside.lasting c.self.inside.parts c.self.inside.wholes.entries _ c.self.view_is c.self.invariant _ _ (sym c.whole_of.ensures ∙ ap option_copied c.in-Some.is) _ c.deref.ensures
 
 pub returns-then-has_shape : goal.returns-then-has_shape
 returns-then-has_shape c =

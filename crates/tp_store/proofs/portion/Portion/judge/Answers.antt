@@ -1,20 +1,16 @@
 use Rattle.std.proofs.Common.{◌≢◌, Some, ap, ap₂, sym, ◌∙◌, subst}
 use Rattle.std.specs.Option.{option_copied}
 use Rattle.tp_value.specs.declared.path.Path.{Path}
-use Rattle.tp_value.specs.Limits.{is_within_list_limit}
 use Rattle.tp_value.specs.Read.{tree}
 use Rattle.tp_value.specs.Shape.{shape_at_path}
 use Rattle.tp_store.specs.Facts.{fact}
 use Rattle.tp_store.specs.Answers.{IsNoted}
 use Rattle.tp_store.specs.declared.note.Noted.TheVariants as noted
-use Rattle.tp_store.proofs.WholeValues.{whole_limit}
-use Rattle.tp_store.proofs.PortionViews.{kept_noted, clash_noted, noted_beside}
+use Rattle.tp_store.proofs.PortionViews.{found_limit, kept_noted, clash_noted, noted_beside}
 use Rattle.tp_store.proofs.portion.Portion.judge.Goals as goal
 
 pub has_shape-requires : goal.has_shape-requires
-has_shape-requires c =
-    let found = sym c.whole_of.ensures ∙ ap option_copied c.in-Some.is in
-    ap (λ w. is_within_list_limit (tree w)) c.deref.ensures ∙ whole_limit c.self.inside.lasting c.self.inside.wholes.entries c.self.inside.parts.facts c.self.invariant.3 _ _ found
+has_shape-requires c = found_limit c.self.inside.lasting c.self.inside.parts c.self.inside.wholes.entries _ c.self.view_is c.self.invariant _ _ (sym c.whole_of.ensures ∙ ap option_copied c.in-Some.is) _ c.deref.ensures
 
 pub returns-then-has_shape : goal.returns-then-has_shape
 returns-then-has_shape c =
