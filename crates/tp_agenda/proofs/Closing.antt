@@ -12,14 +12,15 @@ use Rattle.tp_scene.specs.Pick.{Setting, Moment, Reduces, outcome_of}
 use Rattle.tp_scene.specs.Laws.{IsSound}
 use Rattle.tp_scene.proofs.KnownEnds.{waits_are_for_undecided}
 use Rattle.tp_step.specs.declared.answer.News.{News}
-use Rattle.tp_step.specs.declared.answer.Wait.{Wait}
+use Rattle.tp_step.specs.declared.tally.Wait.{Wait}
 use Rattle.tp_step.specs.declared.order.Order.{Order}
 use Rattle.tp_step.specs.declared.ending.Ending.{Ending}
 use Rattle.tp_step.specs.declared.ending.Ending.TheVariants.{Rest, Clash, Missing, Over}
 use Rattle.tp_step.specs.declared.answer.Tried.{Tried}
 use Rattle.tp_step.specs.declared.answer.Tried.TheVariants as tried
 use Rattle.tp_step.specs.Answers.{AreNews, Tries}
-use Rattle.tp_step.specs.Closes.{ClosureAnswers, ClosureEnds, Counts, EndsWithItem, Made, is_pick}
+use Rattle.tp_step.specs.Closes.{ClosureAnswers, ClosureEnds, Counts, Made, is_pick}
+use Rattle.tp_step.specs.EndsWith.{EndsWithItem}
 use Rattle.tp_step.proofs.Picks.{made_more}
 use Rattle.tp_step.proofs.EveryRest.{closures_commute}
 use Rattle.tp_step.proofs.Room.{closures_keep_room}

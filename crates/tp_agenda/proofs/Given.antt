@@ -17,7 +17,7 @@ use Rattle.tp_store.proofs.Inside.{path_in_value, path_outside}
 use Rattle.tp_scene.specs.Decided.{decides_path}
 use Rattle.tp_scene.specs.declared.answer.Cell.{Cell}
 use Rattle.tp_scene.specs.declared.answer.Cell.TheVariants.{Part, End}
-use Rattle.tp_step.specs.declared.answer.Wait.{Wait}
+use Rattle.tp_step.specs.declared.tally.Wait.{Wait}
 use Rattle.tp_agenda.specs.Board.{facts_decide}
 use Rattle.tp_agenda.specs.Decides.{fact_decides, is_place_of, leads_into}
 use Rattle.tp_agenda.specs.Wakes.{WakesOnly, AreOver}

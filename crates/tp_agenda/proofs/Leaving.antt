@@ -17,7 +17,7 @@ use Rattle.tp_step_laws.proofs.Bridge.{not_live}
 use Rattle.tp_step_laws.proofs.LiveOnce.{items_live_once}
 use Rattle.tp_step_laws.proofs.Waiting.{waits_stay, rests_stay}
 use Rattle.tp_slots.specs.News.{new_items}
-use Rattle.tp_step.specs.declared.answer.Wait.{Wait}
+use Rattle.tp_step.specs.declared.tally.Wait.{Wait}
 use Rattle.tp_lanes.specs.Planes.{flag}
 use Rattle.tp_agenda.specs.Ready.{WaitsFor, may_move}
 use Rattle.tp_agenda.specs.Held.{MayMove, HasOpenWait}

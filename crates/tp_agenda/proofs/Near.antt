@@ -24,7 +24,7 @@ use Rattle.tp_slots.proofs.Showing.{all_shown, has_shown}
 use Rattle.tp_step.specs.Answers.{Tries, moment_of}
 use Rattle.tp_step.specs.declared.answer.Tried.{Tried}
 use Rattle.tp_step.specs.declared.answer.Tried.TheVariants as tried
-use Rattle.tp_step.specs.declared.answer.Wait.{Wait}
+use Rattle.tp_step.specs.declared.tally.Wait.{Wait}
 use Rattle.tp_lanes.specs.Planes.{flag}
 use Rattle.tp_agenda.specs.declared.board.Board.{Board}
 use Rattle.tp_agenda.specs.Board.{NewsAreNear, TakenAreKnown}

@@ -9,7 +9,7 @@ use Rattle.tp_scene.specs.Laws.{IsSound}
 use Rattle.tp_slots.specs.News.{new_items}
 use Rattle.tp_step.specs.Answers.{AreNews}
 use Rattle.tp_step.specs.declared.answer.News.{News}
-use Rattle.tp_step.specs.declared.answer.Wait.{Wait}
+use Rattle.tp_step.specs.declared.tally.Wait.{Wait}
 use Rattle.tp_agenda.specs.declared.board.Board.{Board}
 use Rattle.tp_agenda.specs.Board.{TakesNews, moving_among, news_decide}
 use Rattle.tp_agenda.specs.Decides.{fact_decides, ends_decide}

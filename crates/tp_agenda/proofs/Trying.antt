@@ -9,7 +9,7 @@ use Rattle.tp_scene.specs.Pick.{Setting, Moment, Reduces, Leads, outcome_of}
 use Rattle.tp_scene.specs.Laws.{IsSound}
 use Rattle.tp_scene.proofs.StepsFit.{steps_fit}
 use Rattle.tp_scene.proofs.KnownEnds.{waits_are_for_undecided}
-use Rattle.tp_step.specs.declared.answer.Wait.{Wait}
+use Rattle.tp_step.specs.declared.tally.Wait.{Wait}
 use Rattle.tp_step.specs.declared.order.Order.{Order}
 use Rattle.tp_step.specs.declared.ending.Ending.{Ending}
 use Rattle.tp_step.specs.Closes.{Made}

@@ -4,7 +4,7 @@ use Rattle.std.proofs.lemmas.Bool.Decides.{Decides-eqb}
 use Rattle.tp_value.specs.declared.path.Path.{Path}
 use Rattle.tp_scene.specs.declared.answer.Cell.{Cell}
 use Rattle.tp_scene.specs.declared.answer.Cell.TheVariants.{Part, End}
-use Rattle.tp_step.specs.declared.answer.Wait.{Wait}
+use Rattle.tp_step.specs.declared.tally.Wait.{Wait}
 use Rattle.tp_agenda.specs.declared.index.Index.{Index}
 use Rattle.tp_agenda.specs.Decides.{holds_path}
 use Rattle.tp_agenda.specs.Ready.{WaitsFor}

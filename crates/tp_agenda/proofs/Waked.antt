@@ -5,7 +5,7 @@ use Rattle.std.proofs.lemmas.Bool.{both_ways, or_cases, or_left, or_right}
 use Rattle.std.proofs.lemmas.List.Folds.{list_any-append}
 use Rattle.tp_value.specs.declared.path.Fact.{Fact}
 use Rattle.tp_scene.specs.declared.answer.Cell.{Cell}
-use Rattle.tp_step.specs.declared.answer.Wait.{Wait}
+use Rattle.tp_step.specs.declared.tally.Wait.{Wait}
 use Rattle.tp_agenda.specs.declared.index.Index.{Index}
 use Rattle.tp_agenda.specs.Board.{facts_decide}
 use Rattle.tp_agenda.specs.Decides.{fact_decides}

@@ -13,7 +13,7 @@ use Rattle.tp_store.proofs.FactMapLemmas.{excluded_at}
 use Rattle.tp_scene.specs.Decided.{decides_path}
 use Rattle.tp_scene.specs.declared.answer.Cell.{Cell}
 use Rattle.tp_scene.specs.declared.answer.Cell.TheVariants.{Part, End}
-use Rattle.tp_step.specs.declared.answer.Wait.{Wait}
+use Rattle.tp_step.specs.declared.tally.Wait.{Wait}
 use Rattle.tp_lanes.specs.Planes.{flag}
 use Rattle.tp_agenda.specs.declared.index.Link.{Link}
 use Rattle.tp_agenda.specs.declared.index.Index.{Index}

@@ -4,12 +4,12 @@ use Rattle.std.specs.List.{Contains}
 use Rattle.std.specs.List.Sorted.{IsStrictlyIncreasing}
 use Rattle.tp_scene.specs.Step.{Reduction, waits, rests}
 use Rattle.tp_scene.specs.Pick.{Setting, Moment, Reduces, outcome_of}
-use Rattle.tp_step.specs.declared.answer.Wait.{Wait}
+use Rattle.tp_step.specs.declared.tally.Wait.{Wait}
 use Rattle.tp_step.specs.declared.order.Order.{Order}
 use Rattle.tp_step.specs.declared.order.Order.TheVariants.{First, Last, Seed}
 use Rattle.tp_step.specs.declared.ending.Ending.{Ending}
 use Rattle.tp_step.specs.declared.ending.Ending.TheVariants.{Rest, Clash, Missing, Over}
-use Rattle.tp_step.specs.Closes.{EndsWithItem}
+use Rattle.tp_step.specs.EndsWith.{EndsWithItem}
 use Rattle.tp_step.specs.Seeds.{word_after, choice_of}
 use Rattle.tp_agenda.specs.Ready.{IsReady, NoneTwice}
 

@@ -9,7 +9,7 @@ use Rattle.tp_slots.specs.declared.scene.Scene.{Scene}
 use Rattle.tp_step.specs.declared.answer.News.{News}
 use Rattle.tp_step.specs.declared.answer.Tried.{Tried}
 use Rattle.tp_step.specs.declared.answer.Tried.TheVariants as tried
-use Rattle.tp_step.specs.declared.answer.Wait.{Wait}
+use Rattle.tp_step.specs.declared.tally.Wait.{Wait}
 use Rattle.tp_step.specs.declared.ending.Ending.{Ending}
 use Rattle.tp_step.specs.declared.ending.Ending.TheVariants.{Clash, Missing, Over}
 use Rattle.tp_lanes.specs.Planes.{flag}

@@ -6,7 +6,7 @@ use Rattle.tp_scene.specs.Step.{waits}
 use Rattle.tp_scene.specs.Pick.{Setting, Moment, Leads, outcome_of}
 use Rattle.tp_scene.specs.CellLaws.{AreUndecided}
 use Rattle.tp_scene.specs.Laws.{IsSound}
-use Rattle.tp_step.specs.declared.answer.Wait.{Wait}
+use Rattle.tp_step.specs.declared.tally.Wait.{Wait}
 use Rattle.tp_step.specs.declared.order.Order.{Order}
 use Rattle.tp_step.specs.declared.ending.Ending.{Ending}
 use Rattle.tp_step.specs.declared.ending.Ending.TheVariants.{Rest, Clash, Missing, Over}

@@ -7,7 +7,7 @@ use Rattle.tp_store.specs.Facts.{same_variable}
 use Rattle.tp_scene.specs.declared.answer.Cell.{Cell}
 use Rattle.tp_scene.specs.declared.answer.Cell.TheVariants.{Part, End}
 use Rattle.tp_scene.specs.Decided.{decides_path}
-use Rattle.tp_step.specs.declared.answer.Wait.{Wait}
+use Rattle.tp_step.specs.declared.tally.Wait.{Wait}
 
 -- a cell of it passes the test
 abbrev pub other_passes : (Cell → Bool) → Option Cell → Bool

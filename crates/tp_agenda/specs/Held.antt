@@ -7,7 +7,7 @@ use Rattle.tp_scene.specs.Pick.{Setting, Moment, outcome_of}
 use Rattle.tp_scene.specs.Cells.{IsDecided}
 use Rattle.tp_scene.specs.CellLaws.{AreUndecided}
 use Rattle.tp_step_laws.specs.LiveOnce.{WasLive}
-use Rattle.tp_step.specs.declared.answer.Wait.{Wait}
+use Rattle.tp_step.specs.declared.tally.Wait.{Wait}
 use Rattle.tp_lanes.specs.Planes.{flag}
 use Rattle.tp_agenda.specs.Ready.{NoneTwice, WaitsFor, may_move, IsOver}
 

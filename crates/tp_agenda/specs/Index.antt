@@ -7,7 +7,7 @@ use Rattle.tp_value.specs.declared.path.VarId.{VarId}
 use Rattle.tp_value.specs.declared.path.Path.{Path}
 use Rattle.tp_scene.specs.declared.answer.Cell.{Cell}
 use Rattle.tp_scene.specs.declared.answer.Cell.TheVariants.{Part, End}
-use Rattle.tp_step.specs.declared.answer.Wait.{Wait}
+use Rattle.tp_step.specs.declared.tally.Wait.{Wait}
 use Rattle.tp_agenda.specs.declared.index.Link.{Link}
 use Rattle.tp_agenda.specs.declared.index.Item.{Item}
 use Rattle.tp_agenda.specs.declared.index.Index.{Index}

@@ -9,7 +9,7 @@ use Rattle.tp_scene.specs.Rest.{AtRest}
 use Rattle.tp_scene.specs.Cells.{IsDecided}
 use Rattle.tp_scene.specs.Laws.{IsSound}
 use Rattle.tp_slots.specs.News.{new_items}
-use Rattle.tp_step.specs.declared.answer.Wait.{Wait}
+use Rattle.tp_step.specs.declared.tally.Wait.{Wait}
 use Rattle.tp_lanes.specs.Planes.{flag}
 use Rattle.tp_agenda.specs.Decides.{fact_decides, ends_decide}
 use Rattle.tp_agenda.specs.Marks.{has_known_end}

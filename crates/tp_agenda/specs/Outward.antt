@@ -5,7 +5,7 @@ use Rattle.tp_slots.specs.Places.{holder_at}
 use Rattle.tp_slots.specs.Plain.{What, bare, holds, gone}
 use Rattle.tp_slots.specs.Read.{holders_of, item_home, item_what, scene_of}
 use Rattle.tp_slots.specs.declared.scene.Scene.{Scene}
-use Rattle.tp_step.specs.declared.answer.Wait.{Wait}
+use Rattle.tp_step.specs.declared.tally.Wait.{Wait}
 use Rattle.tp_lanes.specs.Planes.{flag}
 use Rattle.tp_agenda.specs.Ready.{WaitsFor}
 use Rattle.tp_agenda.specs.Marks.{has_known_end}

@@ -7,7 +7,7 @@ use Rattle.tp_scene.specs.Rest.{is_unsettled}
 use Rattle.tp_scene.specs.Pick.{Moment}
 use Rattle.tp_scene.specs.Cells.{IsDecided}
 use Rattle.tp_slots.specs.Plain.{What, bare, holds, gone}
-use Rattle.tp_step.specs.declared.answer.Wait.{Wait}
+use Rattle.tp_step.specs.declared.tally.Wait.{Wait}
 
 -- the wait is for this cell
 abbrev pub WaitsFor : Wait → Cell → Type 0

@@ -2,7 +2,7 @@
 use Rattle.std.specs.Prelude.{◌≡◌, ◌⊎◌, ℕ, ◌<◌, Bool, true, false, List, length}
 use Rattle.tp_slots.specs.Read.{scene_of}
 use Rattle.tp_slots.specs.declared.scene.Scene.{Scene}
-use Rattle.tp_step.specs.declared.answer.Wait.{Wait}
+use Rattle.tp_step.specs.declared.tally.Wait.{Wait}
 use Rattle.tp_lanes.specs.Planes.{flag}
 use Rattle.tp_agenda.specs.declared.board.Board.{Board}
 use Rattle.tp_agenda.specs.Decides.{is_end_of, ends_decide}

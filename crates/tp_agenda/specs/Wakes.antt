@@ -2,7 +2,7 @@
 use Rattle.std.specs.Prelude.{◌≡◌, ◌⊎◌, ℕ, Bool, true, false, List, [], length, slice_get, Some}
 use Rattle.tp_store.specs.Nodes.{path_along}
 use Rattle.tp_scene.specs.declared.answer.Cell.{Cell}
-use Rattle.tp_step.specs.declared.answer.Wait.{Wait}
+use Rattle.tp_step.specs.declared.tally.Wait.{Wait}
 use Rattle.tp_lanes.specs.Planes.{flag}
 use Rattle.tp_agenda.specs.declared.wake.Cause.{Cause}
 use Rattle.tp_agenda.specs.declared.wake.Cause.TheVariants as cause

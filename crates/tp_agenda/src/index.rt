@@ -6,7 +6,7 @@ ghost use Rattle.std.proofs.Common.{rules};
 ghost use Rattle.indexmap.specs.IndexMap.{get, Updates};
 ghost use Rattle.tp_store.specs.FactMap.{outer_path};
 ghost use Rattle.tp_store.specs.Nodes.{path_along};
-ghost use Rattle.tp_step.specs.declared.answer.Wait.{Wait as WaitSeen};
+ghost use Rattle.tp_step.specs.declared.tally.Wait.{Wait as WaitSeen};
 ghost use Rattle.tp_agenda.specs.Decides.{holds_path};
 ghost use Rattle.tp_agenda.specs.Index.{HasFiled, IsChained, IsFiled, IsPushed, equal_paths, is_filed_for, is_filed_under, item_number, newest_at, newest_for};
 

@@ -10,7 +10,7 @@ use Rattle.tp_show.specs.declared.turn.Turn.{Turn}
 use Rattle.tp_show.specs.declared.turn.Turn.TheVariants as turn
 use Rattle.tp_scene.specs.Beginning.{first_moment}
 use Rattle.tp_run.specs.Runs.{program_of, store_of}
-use Rattle.tp_run.specs.History.{RunEndsWith, end_store}
+use Rattle.tp_run.specs.History.{RunEndsWith, end_store, Plan}
 use Rattle.tp_run.proofs.HistoryLemmas.{index_first}
 use Rattle.tp_store.specs.Known.{Contents}
 use Rattle.std.proofs.lemmas.List.Elements.{All-push}
@@ -18,23 +18,21 @@ use Rattle.tp_call.specs.declared.run.Ended.{Ended}
 use Rattle.tp_call.specs.declared.status.Status.{Status}
 use Rattle.tp_call.specs.declared.status.Status.TheVariants.{Done, ReadFault, WriteFault, NoMemory}
 use Rattle.tp_call.specs.declared.status.Which.{Which}
-use Rattle.tp_show.specs.EndLine.{end_line}
+use Rattle.tp_show.specs.Texts.{end_line}
 use Rattle.tp_show.specs.Told.{AreNames, IsPictureInRange, IsLastTurn}
 use Rattle.tp_call.specs.EndLine.{refusal_line, verdict_line}
-use Rattle.tp_call.specs.Printed.{written_state, lead_text, ended_text, settled_text, next_moment}
-use Rattle.tp_call.specs.Written.{Wrote}
+use Rattle.tp_call.specs.Run.{written_state, lead_text, ended_text, settled_text, status_of, RunEnds, Settles}
+use Rattle.tp_call.specs.Progress.{next_moment, Turned, is_settled, printed_lines, PartMade, HasWritten, ProgramMade, ClosesRun}
+use Rattle.tp_call.specs.Files.{Wrote}
 use Rattle.tp_meaning.specs.Interval.{ProgramTree}
-use Rattle.tp_run.specs.States.{Plan}
 use Rattle.tp_run.specs.Standing.{RunPlace}
-use Rattle.tp_call.specs.Run.{status_of, RunEnds, Settles}
-use Rattle.tp_call.specs.Progress.{Turned, is_settled, printed_lines, PartMade, HasWritten, ProgramMade, ClosesRun}
 use Rattle.tp_tree.specs.Tree.{SourceTree}
 use Rattle.tp_tree.specs.Spelling.{source_spelling}
 use Rattle.tp_meaning.specs.Inputs.{InputTable}
 use Rattle.tp_inputs.specs.Table.{IsInputsText}
 use Rattle.tp_inputs.specs.Converted.{converted}
 use Rattle.tp_verdict.specs.Verdict.{Verdict}
-use Rattle.tp_call.specs.Spelling.{IsReadFromSpelling}
+use Rattle.tp_call.specs.Source.{IsReadFromSpelling}
 use Rattle.tp_call.specs.Answer.{IsAskedFor, IsAskedToPrint, IsAskedToConvert, IsJudged, Spells, Converts, Judges, Refuses, RunsTo, run_text, CallEnds, Answers}
 use Rattle.tp_call.specs.Parts.{IsProgramRefusal, ClosesText}
 use Rattle.tp_call.proofs.TurnLemmas.{last_is_given, is_last, ends_run}

@@ -4,7 +4,7 @@ use Rattle.tp_io.specs.Held.{Held, bytes_of}
 use Rattle.tp_inputs.proofs.LawLemmas.{no_faulty_table, one_first_fault}
 use Rattle.tp_meaning.specs.Inputs.{InputTable}
 use Rattle.tp_meaning.specs.Interval.{ProgramTree}
-use Rattle.tp_run.specs.States.{Plan}
+use Rattle.tp_run.specs.History.{Plan}
 use Rattle.tp_tree.specs.Tree.{SourceTree}
 use Rattle.tp_words.specs.declared.mode.Mode.{Mode}
 use Rattle.tp_words.specs.declared.mode.Mode.TheVariants.{Run, Print, Convert, Check}
@@ -15,23 +15,25 @@ use Rattle.tp_call.specs.declared.status.Status.TheVariants.{Done, SourceRefused
 use Rattle.tp_call.specs.declared.status.Which.TheVariants.{Source, Inputs, Other}
 use Rattle.tp_call.specs.declared.status.SourceKind.{SourceKind}
 use Rattle.tp_call.specs.declared.status.Refused.{Refused}
-use Rattle.tp_call.specs.Answer.{refused_status, WhereTold, AsTold, IsAskedFor, HasInputs, HoldsTable, HoldsProgram, HoldsSource, HoldsRefused, IsToPrint, IsToConvert, HoldsWide, HoldsTrace, HasBadTraceLine, HasManyStates, IsAskedToCheck, Spells, Converts, Judges, IsPastLimit, HasBadLine, Serves, ReadsFile, Refuses, RunsTo, CallEnds, Answers, IsOrStopped, IsOrFailed, IsEndOfRun, HasFailed}
-use Rattle.tp_call.specs.Written.{Wrote}
+use Rattle.tp_call.specs.Answer.{refused_status, WhereTold, AsTold, IsAskedFor, HasInputs, HoldsTable, HoldsProgram, HoldsSource, HoldsRefused, IsToPrint, IsToConvert, HoldsWide, HoldsTrace, HasBadTraceLine, HasManyStates, IsAskedToCheck, Spells, Converts, Judges, IsPastLimit, HasBadLine, Serves, ReadsFile, Refuses, RunsTo, CallEnds, Answers, IsOrStopped, IsOrFailed, HasFailed}
+use Rattle.tp_call.specs.Files.{Wrote}
 use Rattle.tp_call.proofs.FileLemmas.{where_told, source_read, source_reader, ReadsSecond, ReadsInputs, ReadsTable, inputs_read, other_read}
 use Rattle.tp_call.proofs.ProgramLemmas.{program_or_refused, source_or_outside, wide_or_refused, refused_once}
 use Rattle.tp_call.proofs.CheckingLemmas.{one_told, not_many}
-use Rattle.tp_call.proofs.TurnLemmas.{ends_run}
+use Rattle.tp_call.proofs.TurnLemmas.{ends_run, end_told}
 use Rattle.std.specs.Str.Lines.{lines}
 use Rattle.tp_show.specs.declared.named_fact.NamedFact.{NamedFact}
 use Rattle.tp_show.proofs.TraceOnce.{one_bad_line, no_bad_trace}
 use Rattle.tp_monitor.specs.WideOf.{NamedWide}
 use Rattle.tp_monitor.specs.Told.{state_limit}
 use Rattle.tp_call.specs.declared.status.Which.{Which}
+use Rattle.tp_call.proofs.EndKinds.{EndsRun}
+use Rattle.tp_call.specs.Headline.{ProgramRuns}
 
 module _ (words : List (List ℕ)) (held : Option Held) (old new : Option (List ℕ)) where
   -- what an answer is that of: a run, a source that is printed, inputs that are converted, a verdict, a refusal, a failed write or want of memory
   pub data View (result : Status) : Type 0 where
-    ran : IsEndOfRun result → (text : List ℕ) → RunsTo words held result text → View result
+    ran : EndsRun result → (text : List ℕ) → RunsTo words held result text → View result
     spelled : (text : List ℕ) → Spells words held result text → View result
     converts : (text : List ℕ) → Converts words held result text → View result
     judged : (text : List ℕ) → Judges words held result text → View result
@@ -209,7 +211,7 @@ module _ (words : List (List ℕ)) (held : Option Held) (old new : Option (List 
       no_check : wanted.mode ≡ Check → ⊥
       no_check e = let bad : Run ≡ Check = sym mode ∙ e in cc
 
-      by_program : (result : Status) (T : Type 0) → View result → (IsEndOfRun result → (text : List ℕ) → RunsTo words held result text → T) → ((line : ℕ) → result ≡ InputsRefused line → ReadsFile words (WhereTold held) Inputs (λ mode. HasBadLine line) → T)
+      by_program : (result : Status) (T : Type 0) → View result → (EndsRun result → (text : List ℕ) → RunsTo words held result text → T) → ((line : ℕ) → result ≡ InputsRefused line → ReadsFile words (WhereTold held) Inputs (λ mode. HasBadLine line) → T)
           → (result ≡ TooLong Inputs → ReadsFile words (WhereTold held) Inputs (λ mode. IsPastLimit Inputs) → T) → (HasFailed result → T) → T
       by_program result T (ran end text run) run_case bad long fails = run_case end text run
       by_program result T (spelled text s) run_case bad long fails = absurd (not_printed result text s)
@@ -464,9 +466,9 @@ module _ (words : List (List ℕ)) (held : Option Held) (old new : Option (List 
           by_table t.0 t.1 s.wanted s.accepted s.mode result (IsOrFailed Done result) (view result a) (λ other h e. inl e) (λ line e h. absurd (no_faulty_table bytes table line h.1.0 good.1 h.1.1)) (λ e h. absurd (omega (arith, h, good.0))) inr
 
   -- what is asked for is there
-  pub program_runs : (result : Status) → Answers words held old new result → (files : Held) → held ≡ Some files → (plan : Plan) → IsAskedFor words held plan → IsEndOfRun result ⊎ HasFailed result
+  pub program_runs : (result : Status) → Answers words held old new result → (files : Held) → held ≡ Some files → (plan : Plan) → IsAskedFor words held plan → EndsRun result ⊎ HasFailed result
   program_runs result a files told plan asked =
-      by_program files told asked.wanted asked.accepted asked.mode plan.program (asked.source files told) result (IsEndOfRun result ⊎ HasFailed result) (view result a)
+      by_program files told asked.wanted asked.accepted asked.mode plan.program (asked.source files told) result (EndsRun result ⊎ HasFailed result) (view result a)
       (λ end text run. inl end)
       (λ line e s.
       let n = named_by s in
@@ -487,3 +489,9 @@ module _ (words : List (List ℕ)) (held : Option Held) (old new : Option (List 
           by (inr s) =
               let bad : Run ≡ Convert = sym asked.mode ∙ (ap (λ (v : Wanted). v.mode) (same_wanted asked.wanted s.wanted asked.accepted s.accepted) ∙ s.mode) in
               absurd (cc)
+
+  pub program_ends : (result : Status) → Answers words held old new result → ProgramRuns words held result
+  program_ends result a = λ files told plan asked. elim (program_runs result a files told plan asked) [
+    | inl is_end ↦ inl (end_told result is_end)
+    | inr had_failed ↦ inr had_failed
+  ]

@@ -10,12 +10,12 @@ use Rattle.tp_show.specs.declared.named_fact.NamedFact.{NamedFact}
 use Rattle.tp_show.proofs.TraceOnce.{one_trace}
 use Rattle.tp_tree.specs.Tree.{SourceTree}
 use Rattle.tp_verdict.specs.Verdict.{Verdict}
-use Rattle.tp_verdict.specs.Sound.{WideFits}
+use Rattle.tp_verdict.specs.Trace.{WideFits}
 use Rattle.tp_monitor.specs.WideOf.{NamedWide, wide_of_source}
 use Rattle.tp_monitor.specs.Told.{state_limit}
 use Rattle.tp_words.specs.declared.mode.Mode.{Mode}
 use Rattle.tp_words.specs.declared.mode.Mode.TheVariants.{Check}
-use Rattle.tp_words.specs.Mode.{has_other}
+use Rattle.tp_words.specs.Options.{has_other}
 use Rattle.tp_words.specs.Words.{Wanted, wanted_of}
 use Rattle.tp_call.specs.declared.source.ReadRefusal.{ReadRefusal}
 use Rattle.tp_call.specs.declared.source.ReadRefusal.TheVariants as read

@@ -5,26 +5,25 @@ use Rattle.tp_scene.specs.declared.answer.Cell.{Cell}
 use Rattle.tp_scene.specs.declared.answer.Clash.{Clash}
 use Rattle.tp_show.specs.declared.turn.Picture.{Picture}
 use Rattle.tp_show.specs.Told.{FitsIn64Bits, IsLastTurn}
-use Rattle.tp_run.specs.States.{Plan}
-use Rattle.tp_run.specs.History.{RunEndsWith, ContinuesEach}
+use Rattle.tp_run.specs.History.{Plan, RunEndsWith, ContinuesEach}
 use Rattle.tp_words.specs.Words.{wanted_of}
 use Rattle.tp_call.specs.declared.status.Status.{Status}
 use Rattle.tp_call.specs.declared.status.Status.TheVariants.{Finished, Done, Contradictory, Undetermined, StateLimit, ReductionLimit, NumberLimit, ListLimit, CallLimit, NestLimit, InputMissing, SourceRefused, InputsRefused, WordsRefused, TooLong, OtherRefused, TraceTooLong}
 use Rattle.tp_call.specs.declared.status.Which.{Which}
 use Rattle.tp_call.specs.declared.status.Which.TheVariants.{Source, Inputs, Other}
 use Rattle.tp_call.specs.declared.status.SourceKind.{SourceKind}
-use Rattle.tp_call.specs.Answer.{WhereTold, HoldsRefused, WritesSpelling, WritesTable, IsPastLimit, HasBadLine, HasBadTraceLine, HasManyStates, ReadsFile, Refuses, CallEnds, Answers, Prints, IsEndOfRun, IsOpenEnd}
-use Rattle.tp_call.specs.Written.{Wrote}
-use Rattle.tp_call.specs.Run.{EndSays}
+use Rattle.tp_call.specs.Answer.{WhereTold, HoldsRefused, Spells, Converts, IsPastLimit, HasBadLine, HasBadTraceLine, HasManyStates, ReadsFile, Refuses, CallEnds, Answers, Prints, WritesVerdict}
+use Rattle.tp_call.specs.Run.{EndSays, IsOpenEnd}
+use Rattle.tp_call.specs.Files.{Wrote}
 use Rattle.tp_call.specs.Text.{AsksNothingBeside, TextTells, SatisfiedAsTold, ContinuesTold, finished_line}
-use Rattle.tp_call.proofs.TurnLemmas.{answer_of, answer_is, ends_run}
+use Rattle.tp_call.proofs.EndKinds.{EndsRun, StaysOpen}
+use Rattle.tp_call.proofs.TurnLemmas.{answer_of, answer_is, ends_run, open_seen}
 use Rattle.tp_call.proofs.TextLemmas.{tells_finished, tells_open}
-use Rattle.tp_call.specs.Judged.{WritesVerdict}
 use Rattle.tp_call.proofs.JudgedLemmas.{writes_verdict}
 
 module _ (words : List (List ℕ)) (held : Option Held) (old new : Option (List ℕ)) where
   -- an answer that is no failure is that of a run, of a source that is printed, of inputs that are converted, or a refusal
-  run_alone : (status : Status) → (Refuses words held status → ⊥) → IsEndOfRun status → (text : List ℕ) × CallEnds words held status text × Wrote old new text → Prints words held old new status (λ p printed. EndSays p printed (answer_of status))
+  run_alone : (status : Status) → (Refuses words held status → ⊥) → EndsRun status → (text : List ℕ) × CallEnds words held status text × Wrote old new text → Prints words held old new status (λ p printed. EndSays p printed (answer_of status))
   run_alone status never end (text, inl run, wrote) = record {
     plan = run.plan;
     pictures = run.pictures;
@@ -37,13 +36,13 @@ module _ (words : List (List ℕ)) (held : Option Held) (old new : Option (List 
     range = run.range;
     says = subst (EndSays run.plan run.pictures) (answer_is run.run.answer status run.run.status_is) run.says;
   }
-  run_alone status never end (text, inr (inl spelled), wrote) = absurd (subst IsEndOfRun spelled.status_is end)
-  run_alone status never end (text, inr (inr (inl made)), wrote) = absurd (subst IsEndOfRun made.status_is end)
-  run_alone status never end (text, inr (inr (inr (inl judges))), wrote) = absurd (subst IsEndOfRun judges.status_is end)
+  run_alone status never end (text, inr (inl spelled), wrote) = absurd (subst EndsRun spelled.status_is end)
+  run_alone status never end (text, inr (inr (inl made)), wrote) = absurd (subst EndsRun made.status_is end)
+  run_alone status never end (text, inr (inr (inr (inl judges))), wrote) = absurd (subst EndsRun judges.status_is end)
   run_alone status never end (text, inr (inr (inr (inr refused))), wrote) = absurd (never refused.0)
 
   -- no run ends with such a status, which is then a refusal's
-  refusal_alone : (status : Status) → (IsEndOfRun status → ⊥) → (status ≡ Done → ⊥) → (text : List ℕ) × CallEnds words held status text × Wrote old new text → Refuses words held status
+  refusal_alone : (status : Status) → (EndsRun status → ⊥) → (status ≡ Done → ⊥) → (text : List ℕ) × CallEnds words held status text × Wrote old new text → Refuses words held status
   refusal_alone status never other (text, inl run, wrote) = absurd (never (ends_run run.run.answer status run.run.status_is))
   refusal_alone status never other (text, inr (inl spelled), wrote) = absurd (other spelled.status_is)
   refusal_alone status never other (text, inr (inr (inl made)), wrote) = absurd (other made.status_is)
@@ -51,14 +50,14 @@ module _ (words : List (List ℕ)) (held : Option Held) (old new : Option (List 
   refusal_alone status never other (text, inr (inr (inr (inr refused))), wrote) = refused.0
 
   -- no run ends so, and no refusal does
-  text_alone : (text : List ℕ) × CallEnds words held Done text × Wrote old new text → WritesSpelling words held old new ⊎ WritesTable words held old new ⊎ WritesVerdict words held old new
+  text_alone : (text : List ℕ) × CallEnds words held Done text × Wrote old new text → ((text : List ℕ) × (Spells words held Done text ⊎ Converts words held Done text) × Wrote old new text) ⊎ WritesVerdict words held old new
   text_alone (text, inl run, wrote) = absurd (ends_run run.run.answer Done run.run.status_is)
-  text_alone (text, inr (inl spelled), wrote) = inl (record { tree = spelled.tree; asked = spelled.asked; appended = subst (Wrote old new) spelled.written wrote; read_back = spelled.read_back })
-  text_alone (text, inr (inr (inl made)), wrote) = inr (inl (record { table = made.table; asked = made.asked; appended = subst (Wrote old new) made.written wrote; read_back = made.read_back }))
-  text_alone (text, inr (inr (inr (inl judges))), wrote) = inr (inr (writes_verdict words held old new judges.verdict judges.judged (subst (Wrote old new) judges.written wrote)))
+  text_alone (text, inr (inl spelled), wrote) = inl (text, inl spelled, wrote)
+  text_alone (text, inr (inr (inl made)), wrote) = inl (text, inr made, wrote)
+  text_alone (text, inr (inr (inr (inl judges))), wrote) = inr (writes_verdict words held old new judges.verdict judges.judged (subst (Wrote old new) judges.written wrote))
   text_alone (text, inr (inr (inr (inr refused))), wrote) = absurd refused.0
 
-  pub done : (result : Status) → Answers words held old new result → result ≡ Done → WritesSpelling words held old new ⊎ WritesTable words held old new ⊎ WritesVerdict words held old new
+  pub done : (result : Status) → Answers words held old new result → result ≡ Done → ((text : List ℕ) × (Spells words held Done text ⊎ Converts words held Done text) × Wrote old new text) ⊎ WritesVerdict words held old new
   done result a is = text_alone (subst (Answers words held old new) is a)
 
   pub finished : (result : Status) → Answers words held old new result → (length : ℕ) → result ≡ Finished length → Prints words held old new (Finished length) (λ p printed. EndSays p printed (answer_of (Finished length)))
@@ -113,15 +112,18 @@ module _ (words : List (List ℕ)) (held : Option Held) (old new : Option (List 
       let answer = answer_is p.run.answer status p.run.status_is in
       tells_open words held old new status _ p (plain p.asked.wanted p.asked.accepted) p.fits (subst IsLastTurn (sym answer) last) (says p.plan p.pictures p.says)
 
+  text_left_open : (result : Status) → Answers words held old new result → StaysOpen result → AsksNothingBeside words → TextTells words held old new (λ plan told last. ContinuesTold plan told)
+  text_left_open (Undetermined state cell) a o plain = open_by (Undetermined state cell) (run_alone (Undetermined state cell) (λ r. r) tt a) tt (λ plan printed h. h) plain
+  text_left_open (StateLimit states) a o plain = open_by (StateLimit states) (run_alone (StateLimit states) (λ r. r) tt a) tt (λ plan printed h. h) plain
+  text_left_open (ReductionLimit state) a o plain = open_by (ReductionLimit state) (run_alone (ReductionLimit state) (λ r. r) tt a) tt (λ plan printed h. h) plain
+  text_left_open (NumberLimit state) a o plain = open_by (NumberLimit state) (run_alone (NumberLimit state) (λ r. r) tt a) tt (λ plan printed h. h) plain
+  text_left_open (ListLimit state) a o plain = open_by (ListLimit state) (run_alone (ListLimit state) (λ r. r) tt a) tt (λ plan printed h. h) plain
+  text_left_open (CallLimit state) a o plain = open_by (CallLimit state) (run_alone (CallLimit state) (λ r. r) tt a) tt (λ plan printed h. h) plain
+  text_left_open (NestLimit state) a o plain = open_by (NestLimit state) (run_alone (NestLimit state) (λ r. r) tt a) tt (λ plan printed h. h) plain
+  text_left_open _ a o plain = absurd o
+
   pub open_text : (result : Status) → Answers words held old new result → IsOpenEnd result → AsksNothingBeside words → TextTells words held old new (λ plan told last. ContinuesTold plan told)
-  open_text (Undetermined state cell) a o plain = open_by (Undetermined state cell) (run_alone (Undetermined state cell) (λ r. r) tt a) tt (λ plan printed h. h) plain
-  open_text (StateLimit states) a o plain = open_by (StateLimit states) (run_alone (StateLimit states) (λ r. r) tt a) tt (λ plan printed h. h) plain
-  open_text (ReductionLimit state) a o plain = open_by (ReductionLimit state) (run_alone (ReductionLimit state) (λ r. r) tt a) tt (λ plan printed h. h) plain
-  open_text (NumberLimit state) a o plain = open_by (NumberLimit state) (run_alone (NumberLimit state) (λ r. r) tt a) tt (λ plan printed h. h) plain
-  open_text (ListLimit state) a o plain = open_by (ListLimit state) (run_alone (ListLimit state) (λ r. r) tt a) tt (λ plan printed h. h) plain
-  open_text (CallLimit state) a o plain = open_by (CallLimit state) (run_alone (CallLimit state) (λ r. r) tt a) tt (λ plan printed h. h) plain
-  open_text (NestLimit state) a o plain = open_by (NestLimit state) (run_alone (NestLimit state) (λ r. r) tt a) tt (λ plan printed h. h) plain
-  open_text _ a o plain = absurd o
+  open_text result a end = text_left_open result a (open_seen result end)
 
   pub words_refused_only : (result : Status) → Answers words held old new result → result ≡ WordsRefused → wanted_of words ≡ None
   words_refused_only result a is = refusal_alone WordsRefused (λ e. e) (λ e. cc) (subst (Answers words held old new) is a)

@@ -1,5 +1,5 @@
 -- What is said of words that ask for a drill, and of those that ask for none.
-use Rattle.std.proofs.Common.{◌≡◌, ◌⊎◌, inl, inr, ℕ, List, [], Option, Some, None, refl, sym, ap, ◌∙◌, subst}
+use Rattle.std.proofs.Common.{◌≡◌, ◌≢◌, ◌⊎◌, inl, inr, ℕ, List, [], Option, Some, None, refl, sym, ap, ◌∙◌, subst}
 use Rattle.tp_io.specs.Held.{Held}
 use Rattle.tp_inputs.specs.Within.{InputsWithin}
 use Rattle.tp_meaning.specs.Inputs.{InputTable}
@@ -8,28 +8,27 @@ use Rattle.tp_meaning.specs.Fits.{ProgramFits}
 use Rattle.tp_gen.specs.Source.{source_text}
 use Rattle.tp_show.specs.declared.turn.Picture.{Picture}
 use Rattle.tp_show.specs.declared.turn.Turn.{Turn}
-use Rattle.tp_show.specs.declared.turn.Turn.TheVariants as turn
-use Rattle.tp_run.specs.History.{RunEndsWith}
-use Rattle.tp_run.specs.States.{Plan, plan_with, globals_of}
-use Rattle.tp_run.specs.Same.{SameEnd, FailsIn}
+use Rattle.tp_run.specs.History.{RunEndsWith, Plan, plan_with, globals_of}
+use Rattle.tp_run.specs.Same.{SameEnd}
 use Rattle.tp_run_laws.specs.Agree.{IsOrderlyPlan}
 use Rattle.tp_run_laws.proofs.Agree.{runs_agree}
 use Rattle.tp_words.specs.declared.mode.Mode.{Mode}
 use Rattle.tp_words.specs.declared.mode.Mode.TheVariants.{Run, Print, Convert, Check, Drill}
 use Rattle.tp_words.specs.Words.{Wanted, wanted_of}
 use Rattle.tp_call.specs.declared.status.Status.{Status}
-use Rattle.tp_call.specs.declared.status.Status.TheVariants.{Finished, Done, Contradictory, Undetermined, StateLimit, ReductionLimit, NumberLimit, ListLimit, CallLimit, NestLimit, InputMissing, SourceRefused, InputsRefused, WordsRefused, TooLong, ReadFault, WriteFault, NoMemory, OtherRefused, TraceTooLong}
+use Rattle.tp_call.specs.declared.status.Status.TheVariants.{Finished, Done, SourceRefused, InputsRefused, WordsRefused, TooLong, ReadFault, WriteFault, NoMemory, OtherRefused, TraceTooLong}
+use Rattle.tp_call.specs.declared.status.Refused.{Refused}
 use Rattle.tp_call.specs.declared.status.Which.{Which}
 use Rattle.tp_call.specs.EndLine.{refusal_line}
-use Rattle.tp_call.specs.Run.{RunEnds, status_of}
-use Rattle.tp_call.specs.Files.{NamedFile, files_read, IsFoundIn}
-use Rattle.tp_call.specs.Answer.{ReadsFile, Refuses}
+use Rattle.tp_call.specs.Run.{RunEnds}
+use Rattle.tp_call.specs.Files.{Wrote, NamedFile, files_read, IsFoundIn}
+use Rattle.tp_call.specs.Answer.{ReadsFile, Refuses, refused_status}
 use Rattle.tp_call.specs.Parts.{IsProgramRefusal, ClosesText}
-use Rattle.tp_call.specs.EveryOrder.{ComesTo, IsFailureIn}
-use Rattle.tp_call.specs.Drill.{AsksForDrill, AsksNoDrill, IsAskedToDrill, DrillFinished, DrillStopped, DrillRefused, DrillAnswers, DrillSays, DrillComesTo, DrillComesToEachEnd}
+use Rattle.tp_call.specs.EachRun.{ComesTo}
+use Rattle.tp_call.specs.Drill.{AsksForDrill, AsksNoDrill, IsAskedToDrill, DrillFinished, DrillStopped, DrillRefused, DrillEnds, DrillAnswers, DrillSays, DrillComesTo, DrillComesToEachEnd}
+use Rattle.tp_call.proofs.EndKinds.{EndsRun}
 use Rattle.tp_call.proofs.ProgramLemmas.{one_program, program_or_refused}
-use Rattle.tp_call.proofs.EveryOrderLemmas.{comes_to}
-use Rattle.tp_call.proofs.DrillLemmas.{over_never}
+use Rattle.tp_call.proofs.TurnLemmas.{ends_run}
 
 -- the other modes are no drill
 pub run_apart : (size : ℕ) → Run ≡ Drill size → ⊥
@@ -125,21 +124,15 @@ module _ (words : List (List ℕ)) (old new : Option (List ℕ)) (before after :
     was_refused : (text : List ℕ) → DrillRefused words size result text → DrillView size result
     had_failed : (result ≡ WriteFault) ⊎ (result ≡ NoMemory) → DrillView size result
 
+  seen_end : (size : ℕ) (result : Status) → (text : List ℕ) × DrillEnds words size before after result text × Wrote old new text → DrillView size result
+  seen_end size result (text, inl d, wrote) = was_done text d.0 d.1
+  seen_end size result (text, inr (inl s), wrote) = was_stopped text s
+  seen_end size result (text, inr (inr r), wrote) = was_refused text r
+
   seen : (size : ℕ) (result : Status) → DrillAnswers words size old new before after result → DrillView size result
-  seen size Done d = was_done d.0 refl d.1
-  seen size (Contradictory state clash) d = was_stopped d.0 d.1
-  seen size (Undetermined state cell) d = was_stopped d.0 d.1
-  seen size (StateLimit states) d = was_stopped d.0 d.1
-  seen size (ReductionLimit state) d = was_stopped d.0 d.1
-  seen size (NumberLimit state) d = was_stopped d.0 d.1
-  seen size (ListLimit state) d = was_stopped d.0 d.1
-  seen size (CallLimit state) d = was_stopped d.0 d.1
-  seen size (NestLimit state) d = was_stopped d.0 d.1
-  seen size (InputMissing state port) d = was_stopped d.0 d.1
-  seen size (SourceRefused line column kind) d = was_refused d.0 d.1
   seen size WriteFault d = had_failed (inl refl)
   seen size NoMemory d = had_failed (inr refl)
-  seen size _ d = absurd d
+  seen size result d = seen_end size result d
 
   no_input_within : (t : InputTable) → t ≡ [] → InputsWithin t
   no_input_within t none = subst InputsWithin (sym none) tt
@@ -162,38 +155,7 @@ module _ (words : List (List ℕ)) (old new : Option (List ℕ)) (before after :
       let same : plan ≡ own = one_drill size plan own asked is in
       let orderly : IsOrderlyPlan own = record { program = fits; inputs = no_input_within own.inputs is.inputs } in
       let agree = runs_agree own orderly others end (subst (λ (p : Plan). RunEndsWith p others end) same ends) pictures run.answer run.run in
-      comes_to (globals_of plan) end run.answer status (subst (λ (p : Plan). SameEnd (globals_of p) end run.answer) (sym same) agree.1) run.status_is
-
-  -- a run that fails isn't one that finishes
-  never_finishes : (state n : ℕ) → IsFailureIn state (Finished n) → ⊥
-  never_finishes state n f = by f.0 f.1 f.2
-    where
-      by : (answer : Turn) → FailsIn state answer → status_of answer ≡ Some (Finished n) → ⊥
-      by turn.Went fails is = fails
-      by (turn.Finished m) fails is = fails
-      by (turn.Undetermined at cell) fails is = fails
-      by (turn.StateLimit states) fails is = fails
-      by (turn.Contradictory at clash) fails is = cc (is)
-      by (turn.InputMissing at port) fails is = cc (is)
-      by (turn.Over at limit) fails is = over_never at n limit is
-
-  comes_done : (globals n : ℕ) (end : Turn) → ComesTo globals end (Finished n) → DrillComesTo globals end Done
-  comes_done globals n turn.Went c = c
-  comes_done globals n (turn.Finished m) c = refl
-  comes_done globals n (turn.Contradictory state clash) c = absurd (never_finishes state n c)
-  comes_done globals n (turn.Undetermined state cell) c = absurd (cc (c.1))
-  comes_done globals n (turn.StateLimit states) c = absurd (cc (c))
-  comes_done globals n (turn.InputMissing state port) c = absurd (never_finishes state n c)
-  comes_done globals n (turn.Over state limit) c = absurd (never_finishes state n c)
-
-  comes_stopped : (globals : ℕ) (end : Turn) (status : Status) → ((n : ℕ) → status ≡ Finished n → ⊥) → ComesTo globals end status → DrillComesTo globals end status
-  comes_stopped globals turn.Went status unfinished c = c
-  comes_stopped globals (turn.Finished n) status unfinished c = absurd (unfinished n c)
-  comes_stopped globals (turn.Contradictory state clash) status unfinished c = c
-  comes_stopped globals (turn.Undetermined state cell) status unfinished c = c
-  comes_stopped globals (turn.StateLimit states) status unfinished c = c
-  comes_stopped globals (turn.InputMissing state port) status unfinished c = c
-  comes_stopped globals (turn.Over state limit) status unfinished c = c
+      (run.answer, subst (λ (p : Plan). SameEnd (globals_of p) end run.answer) (sym same) agree.1, run.status_is)
 
   pub drill_comes : (result : Status) → DrillSays words old new before after result → DrillComesToEachEnd words result
   drill_comes result says = λ size plan asked pictures end ends. by size plan asked pictures end ends (seen size result (says size asked.asks))
@@ -201,9 +163,9 @@ module _ (words : List (List ℕ)) (old new : Option (List ℕ)) (before after :
       by : (size : ℕ) (plan : Plan) (asked : IsAskedToDrill words size plan) (pictures : List Picture) (end : Turn) → RunEndsWith plan pictures end → DrillView size result
           → DrillComesTo (globals_of plan) end result ⊎ (result ≡ WriteFault) ⊎ (result ≡ NoMemory)
       by size plan asked pictures end ends (was_done text is f) =
-          inl (subst (DrillComesTo (globals_of plan) end) (sym is) (comes_done (globals_of plan) f.length end (comes_as size plan f.plan asked f.asked f.fits f.pictures (Finished f.length) f.run pictures end ends)))
+          inl (inl (f.length, comes_as size plan f.plan asked f.asked f.fits f.pictures (Finished f.length) f.run pictures end ends, is))
       by size plan asked pictures end ends (was_stopped text s) =
-          inl (comes_stopped (globals_of plan) end result s.unfinished (comes_as size plan s.plan asked s.asked s.fits s.pictures result s.run pictures end ends))
+          inl (inr (s.unfinished, comes_as size plan s.plan asked s.asked s.fits s.pictures result s.run pictures end ends))
       by size plan asked pictures end ends (was_refused text r) = absurd (program_or_refused (source_text size) plan.program r.refused asked.source r.cause)
       by size plan asked pictures end ends (had_failed f) = inr f
 
@@ -211,24 +173,31 @@ module _ (words : List (List ℕ)) (old new : Option (List ℕ)) (before after :
     it_is : (status : Status) → result ≡ status → DrillAnswers words size old new before after status
     it_is status is = subst (DrillAnswers words size old new before after) is (says size asks)
 
+    -- it ends as done, as a run that didn't finish, or with a source that is refused
+    no_end : (status : Status) → (status ≡ Done → ⊥) → (EndsRun status → ((n : ℕ) → status ≢ Finished n) → ⊥) → ((r : Refused) → status ≡ refused_status r → ⊥)
+        → (text : List ℕ) × DrillEnds words size before after status text × Wrote old new text → ⊥
+    no_end status not_done not_stopped not_refused (text, inl d, wrote) = not_done d.0
+    no_end status not_done not_stopped not_refused (text, inr (inl s), wrote) = not_stopped (ends_run s.run.answer status s.run.status_is) s.unfinished
+    no_end status not_done not_stopped not_refused (text, inr (inr r), wrote) = not_refused r.refused r.status_is
+
     -- what a drill never answers
     pub no_finish : (n : ℕ) → result ≡ Finished n → ⊥
-    no_finish n is = it_is (Finished n) is
+    no_finish n is = no_end (Finished n) (λ e. cc (e)) (λ end apart. apart n refl) (λ r e. cc (e)) (it_is (Finished n) is)
 
     pub no_words_refused : result ≡ WordsRefused → ⊥
-    no_words_refused is = it_is WordsRefused is
+    no_words_refused is = no_end WordsRefused (λ e. cc (e)) (λ end apart. end) (λ r e. cc (e)) (it_is WordsRefused is)
 
     pub no_too_long : (which : Which) → result ≡ TooLong which → ⊥
-    no_too_long which is = it_is (TooLong which) is
+    no_too_long which is = no_end (TooLong which) (λ e. cc (e)) (λ end apart. end) (λ r e. cc (e)) (it_is (TooLong which) is)
 
     pub no_inputs_refused : (line : ℕ) → result ≡ InputsRefused line → ⊥
-    no_inputs_refused line is = it_is (InputsRefused line) is
+    no_inputs_refused line is = no_end (InputsRefused line) (λ e. cc (e)) (λ end apart. end) (λ r e. cc (e)) (it_is (InputsRefused line) is)
 
     pub no_other_refused : (line : ℕ) → result ≡ OtherRefused line → ⊥
-    no_other_refused line is = it_is (OtherRefused line) is
+    no_other_refused line is = no_end (OtherRefused line) (λ e. cc (e)) (λ end apart. end) (λ r e. cc (e)) (it_is (OtherRefused line) is)
 
     pub no_trace_too_long : (states : ℕ) → result ≡ TraceTooLong states → ⊥
-    no_trace_too_long states is = it_is (TraceTooLong states) is
+    no_trace_too_long states is = no_end (TraceTooLong states) (λ e. cc (e)) (λ end apart. end) (λ r e. cc (e)) (it_is (TraceTooLong states) is)
 
     pub no_read_fault : (which : Which) → result ≡ ReadFault which → ⊥
-    no_read_fault which is = it_is (ReadFault which) is
+    no_read_fault which is = no_end (ReadFault which) (λ e. cc (e)) (λ end apart. end) (λ r e. cc (e)) (it_is (ReadFault which) is)

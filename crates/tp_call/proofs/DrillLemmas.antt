@@ -12,16 +12,14 @@ use Rattle.tp_scene.specs.Beginning.{first_moment}
 use Rattle.tp_show.specs.declared.turn.Picture.{Picture}
 use Rattle.tp_show.specs.declared.turn.Turn.{Turn}
 use Rattle.tp_show.specs.declared.turn.Turn.TheVariants as turn
-use Rattle.tp_show.specs.EndLine.{end_line}
+use Rattle.tp_show.specs.Texts.{end_line}
 use Rattle.tp_show.specs.Told.{IsLastTurn}
-use Rattle.tp_step.specs.declared.answer.Tally.{Tally}
+use Rattle.tp_step.specs.declared.tally.Tally.{Tally}
 use Rattle.tp_step.specs.declared.order.Order.{Order}
-use Rattle.tp_run.specs.States.{Plan}
+use Rattle.tp_run.specs.History.{Plan, beginning_of, RunEndsWith, end_store}
 use Rattle.tp_run.specs.Standing.{Standing, RunPlace, open_at, AnswersState, StateBecomes}
-use Rattle.tp_run.specs.PicksOfRun.{beginning_of}
-use Rattle.tp_run.specs.History.{RunEndsWith, end_store}
 use Rattle.tp_run.specs.Runs.{store_of}
-use Rattle.tp_run.specs.Tried.{recorded_tries, TriesBeyond}
+use Rattle.tp_run.specs.Ordered.{recorded_tries, TriesBeyond}
 use Rattle.tp_run.specs.StateTries.{CountsStateTries}
 use Rattle.tp_run.proofs.HistoryLemmas.{lead_more, count_more, index_first}
 use Rattle.tp_words.specs.declared.mode.Mode.TheVariants.{Run}
@@ -31,16 +29,17 @@ use Rattle.tp_call.specs.declared.status.Status.{Status}
 use Rattle.tp_call.specs.declared.status.Status.TheVariants.{Finished, Done, Contradictory, Undetermined, StateLimit, ReductionLimit, NumberLimit, ListLimit, CallLimit, NestLimit, InputMissing, WriteFault, NoMemory}
 use Rattle.tp_call.specs.declared.status.Refused.{Refused}
 use Rattle.tp_call.specs.EndLine.{refusal_line}
-use Rattle.tp_call.specs.Written.{Wrote}
-use Rattle.tp_call.specs.Run.{last_answer, status_of}
+use Rattle.tp_call.specs.Files.{Wrote}
+use Rattle.tp_call.specs.Progress.{last_answer, is_settled, line_of_end}
+use Rattle.tp_call.specs.Run.{status_of}
 use Rattle.tp_call.specs.Source.{IsRefusedAt}
-use Rattle.tp_call.specs.Answer.{refused_status, IsEndOfRun}
+use Rattle.tp_call.specs.Answer.{refused_status}
 use Rattle.tp_call.specs.Parts.{IsReadRefusal, ClosesText}
-use Rattle.tp_call.specs.Progress.{is_settled, line_of_end}
-use Rattle.tp_call.specs.Work.{all_tries, RunTried}
+use Rattle.tp_call.specs.InOrder.{all_tries, RunTried}
 use Rattle.tp_call.specs.Worked.{StateTried}
 use Rattle.tp_call.specs.Drill.{AsksForDrill, IsAskedToDrill, reductions_in, drill_line, DrillFinished, DrillStopped, DrillRefused, DrillAnswers}
 use Rattle.tp_call.specs.Drilled.{CountsState, StateDrilled, AreTotalsOf, HasDrilled, RunDrilled, finished_length, ClosesAtLength, ClosesDrill}
+use Rattle.tp_call.proofs.EndKinds.{EndsRun}
 use Rattle.tp_call.proofs.TurnLemmas.{goes_with, last_is_given, is_last, ends_run}
 use Rattle.tp_call.proofs.HeadlineLemmas.{end_says}
 use Rattle.tp_call.proofs.OrderLemmas.{tried_names}
@@ -202,23 +201,15 @@ module _ (words : List (List ℕ)) (size : ℕ) (old new : Option (List ℕ)) (b
   line_closed : (line : List ℕ) (result : Status) → DrillFinished words size before after line → ClosesText line Done old new result → DrillAnswers words size old new before after result
   line_closed line WriteFault f c = (line, (Done, inl (refl, f)), c)
   line_closed line NoMemory f c = c
-  line_closed line result f c = subst (DrillAnswers words size old new before after) (sym c.0) (line, f, c.1)
+  line_closed line result f c = subst (DrillAnswers words size old new before after) (sym c.0) (line, inl (refl, f), c.1)
 
   -- the end line of one that ended otherwise
-  stopped_whole : (line : List ℕ) (status : Status) → IsEndOfRun status → DrillStopped words size before after status line → Wrote old new line → DrillAnswers words size old new before after status
-  stopped_whole line (Finished n) end s w = absurd (s.unfinished n refl)
-  stopped_whole line (Contradictory state clash) end s w = (line, s, w)
-  stopped_whole line (Undetermined state cell) end s w = (line, s, w)
-  stopped_whole line (StateLimit states) end s w = (line, s, w)
-  stopped_whole line (ReductionLimit state) end s w = (line, s, w)
-  stopped_whole line (NumberLimit state) end s w = (line, s, w)
-  stopped_whole line (ListLimit state) end s w = (line, s, w)
-  stopped_whole line (CallLimit state) end s w = (line, s, w)
-  stopped_whole line (NestLimit state) end s w = (line, s, w)
-  stopped_whole line (InputMissing state port) end s w = (line, s, w)
-  stopped_whole line _ end s w = absurd end
+  stopped_whole : (line : List ℕ) (status : Status) → EndsRun status → DrillStopped words size before after status line → Wrote old new line → DrillAnswers words size old new before after status
+  stopped_whole line WriteFault end s w = absurd end
+  stopped_whole line NoMemory end s w = absurd end
+  stopped_whole line status end s w = (line, inr (inl s), w)
 
-  end_closed : (line : List ℕ) (status result : Status) → IsEndOfRun status → DrillStopped words size before after status line → ClosesText line status old new result → DrillAnswers words size old new before after result
+  end_closed : (line : List ℕ) (status result : Status) → EndsRun status → DrillStopped words size before after status line → ClosesText line status old new result → DrillAnswers words size old new before after result
   end_closed line status WriteFault end s c = (line, (status, inr (inl s)), c)
   end_closed line status NoMemory end s c = c
   end_closed line status result end s c = subst (DrillAnswers words size old new before after) (sym c.0) (stopped_whole line status end s c.1)
@@ -307,7 +298,7 @@ module _ (words : List (List ℕ)) (size : ℕ) (old new : Option (List ℕ)) (b
       by : (result : Status) → ClosesText line (refused_status refused) old new result → DrillAnswers words size old new before after result
       by WriteFault c = (line, (refused_status refused, inr (inr is)), c)
       by NoMemory c = c
-      by other c = subst (DrillAnswers words size old new before after) (sym c.0) (line, is, c.1)
+      by other c = subst (DrillAnswers words size old new before after) (sym c.0) (line, inr (inr is), c.1)
 
   pub drill_refused : (asks : AsksForDrill words size) (status result : Status) → IsReadRefusal Run (source_text size) status → (status ≡ NoMemory → result ≡ NoMemory) → ClosesText (refusal_line status) status old new result
       → DrillAnswers words size old new before after result

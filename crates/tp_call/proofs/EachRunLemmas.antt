@@ -5,9 +5,8 @@ use Rattle.tp_kernel.specs.declared.fault.LimitKind.TheVariants as limit
 use Rattle.tp_show.specs.declared.turn.Picture.{Picture}
 use Rattle.tp_show.specs.declared.turn.Turn.{Turn}
 use Rattle.tp_show.specs.declared.turn.Turn.TheVariants as turn
-use Rattle.tp_show.specs.EndLine.{end_line}
-use Rattle.tp_run.specs.History.{RunEndsWith}
-use Rattle.tp_run.specs.States.{Plan, globals_of}
+use Rattle.tp_show.specs.Texts.{end_line}
+use Rattle.tp_run.specs.History.{RunEndsWith, Plan, globals_of}
 use Rattle.tp_run_laws.specs.Agree.{IsOrderlyPlan}
 use Rattle.tp_run.specs.Same.{FailsNowhere}
 use Rattle.tp_run_laws.specs.Beginnings.{NoDeadEnd}
@@ -18,12 +17,11 @@ use Rattle.tp_words.specs.Words.{Wanted}
 use Rattle.tp_call.specs.declared.status.Status.{Status}
 use Rattle.tp_call.specs.declared.status.Status.TheVariants.{Finished, Undetermined, StateLimit}
 use Rattle.tp_call.specs.Run.{status_of, RunEnds, known_at_end}
-use Rattle.tp_call.specs.Written.{Wrote}
+use Rattle.tp_call.specs.Files.{Wrote}
 use Rattle.tp_call.specs.Answer.{IsAskedFor, Answers, run_text, HasFailed}
-use Rattle.tp_call.specs.EveryOrder.{ComesTo}
-use Rattle.tp_call.specs.EachRun.{WroteTextOf, PrintsEachRun, BeginningsComeToEnd}
+use Rattle.tp_call.specs.EachRun.{ComesTo, WroteTextOf, PrintsEachRun, BeginningsComeToEnd}
 use Rattle.tp_call.proofs.AnsweredLemmas.{program_runs}
-use Rattle.tp_call.proofs.EveryOrderLemmas.{comes_to, PrintsRun, ended, inputs_within, one_plan}
+use Rattle.tp_call.proofs.EveryOrderLemmas.{PrintsRun, ended, inputs_within, one_plan}
 use Rattle.tp_call.proofs.SameText.{one_text, one_end_line}
 
 -- the statuses of ends that aren't failures
@@ -98,8 +96,11 @@ module _ (words : List (List ℕ)) (held : Option Held) (old new : Option (List 
   -- each run comes to the end of the call
   comes_there : (result : Status) (r : PrintsRun words held old new result) (pictures : List Picture) (end : Turn) → RunEndsWith r.plan pictures end
       → ComesTo (globals_of r.plan) end result
-  comes_there result r pictures end run = comes_to (globals_of r.plan) end r.run.answer result
-      (runs_agree r.plan (orderly result r) pictures end run r.pictures r.run.answer r.run.run).1 r.run.status_is
+  comes_there result r pictures end run = (
+    r.run.answer,
+    (runs_agree r.plan (orderly result r) pictures end run r.pictures r.run.answer r.run.run).1,
+    r.run.status_is,
+  )
 
   no_dead_end : (result : Status) (r : PrintsRun words held old new result) → FailsNowhere r.run.answer
       → NoDeadEnd r.plan (λ other. ComesTo (globals_of r.plan) other result)

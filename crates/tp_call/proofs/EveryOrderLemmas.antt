@@ -8,33 +8,19 @@ use Rattle.tp_meaning.specs.Inputs.{InputTable}
 use Rattle.tp_meaning.specs.Interval.{ProgramTree}
 use Rattle.tp_show.specs.declared.turn.Picture.{Picture}
 use Rattle.tp_show.specs.declared.turn.Turn.{Turn}
-use Rattle.tp_show.specs.declared.turn.Turn.TheVariants as turn
-use Rattle.tp_run.specs.History.{RunEndsWith}
-use Rattle.tp_run.specs.States.{Plan, plan_with, globals_of}
+use Rattle.tp_run.specs.History.{RunEndsWith, Plan, plan_with, globals_of}
 use Rattle.tp_run.specs.Same.{SamePictures, SameEnd}
 use Rattle.tp_run_laws.specs.Agree.{IsOrderlyPlan}
 use Rattle.tp_run_laws.proofs.Agree.{runs_agree}
 use Rattle.tp_words.specs.Words.{Wanted}
 use Rattle.tp_call.specs.declared.status.Status.{Status}
 use Rattle.tp_call.specs.declared.status.Status.TheVariants.{Finished, Contradictory, Undetermined, StateLimit, ReductionLimit, NumberLimit, ListLimit, CallLimit, NestLimit, InputMissing}
-use Rattle.tp_call.specs.Run.{status_of}
-use Rattle.tp_call.specs.Answer.{IsAskedFor, HasInputs, HoldsProgram, Answers, Prints, IsEndOfRun}
-use Rattle.tp_call.specs.EveryOrder.{ComesTo, ComesToEachEnd}
+use Rattle.tp_call.specs.Answer.{IsAskedFor, HasInputs, HoldsProgram, Answers, Prints}
+use Rattle.tp_call.specs.EachRun.{ComesTo, ComesToEachEnd}
+use Rattle.tp_call.proofs.EndKinds.{EndsRun}
 use Rattle.tp_call.proofs.ProgramLemmas.{one_program}
 use Rattle.tp_call.proofs.ClauseLemmas.{finished, contradictory, undetermined, state_limit, reduction_limit, number_limit, list_limit, call_limit, nest_limit, input_missing}
 use Rattle.tp_call.proofs.AnsweredLemmas.{program_runs}
-
--- an answer with the same end has such a status
-pub comes_to : (globals : ℕ) (answer other : Turn) (result : Status) → SameEnd globals answer other → status_of other ≡ Some result → ComesTo globals answer result
-comes_to globals turn.Went other result same is = let none : status_of turn.Went ≡ Some result = ap status_of (sym same) ∙ is in absurd (cc)
-comes_to globals (turn.Finished n) other result same is = let some : status_of (turn.Finished n) ≡ Some result = ap status_of (sym same) ∙ is in cc
-comes_to globals (turn.Contradictory state clash) other result same is = (other, same, is)
-comes_to globals (turn.Undetermined state cell) other result same is =
-    let some : status_of (turn.Undetermined state same.0) ≡ Some result = ap status_of (sym same.1) ∙ is in
-    (same.0, cc, same.2)
-comes_to globals (turn.StateLimit states) other result same is = let some : status_of (turn.StateLimit states) ≡ Some result = ap status_of (sym same) ∙ is in cc
-comes_to globals (turn.InputMissing state port) other result same is = (other, same, is)
-comes_to globals (turn.Over state kind) other result same is = (other, same, is)
 
 module _ (words : List (List ℕ)) (held : Option Held) (old new : Option (List ℕ)) where
   -- what a run printed, whatever is said of it
@@ -59,7 +45,7 @@ module _ (words : List (List ℕ)) (held : Option Held) (old new : Option (List 
   plain : (result : Status) (P : Plan → List Picture → Type 0) → Prints words held old new result P → PrintsRun result
   plain result P r = printed_so result P (λ p printed. Unit {0}) r tt
 
-  pub ended : (result : Status) → IsEndOfRun result → Answers words held old new result → PrintsRun result
+  pub ended : (result : Status) → EndsRun result → Answers words held old new result → PrintsRun result
   ended (Finished n) end a = plain (Finished n) _ (finished words held old new (Finished n) a n refl)
   ended (Contradictory state clash) end a = plain (Contradictory state clash) _ (contradictory words held old new (Contradictory state clash) a state clash refl)
   ended (Undetermined state cell) end a = plain (Undetermined state cell) _ (undetermined words held old new (Undetermined state cell) a state cell refl)
@@ -102,7 +88,7 @@ module _ (words : List (List ℕ)) (held : Option Held) (old new : Option (List 
         let same : plan ≡ run.plan = one_plan plan run.plan asked run.asked in
         let orderly : IsOrderlyPlan run.plan = record { program = run.fits; inputs = inputs_within run.asked.wanted.inputs run.plan.inputs run.asked.inputs } in
         let agree = runs_agree run.plan orderly pictures end (subst (λ (p : Plan). RunEndsWith p pictures end) same ends) run.pictures run.run.answer run.run.run in (
-          comes_to (globals_of plan) end run.run.answer result (subst (λ (p : Plan). SameEnd (globals_of p) end run.run.answer) (sym same) agree.1) run.run.status_is,
+          (run.run.answer, subst (λ (p : Plan). SameEnd (globals_of p) end run.run.answer) (sym same) agree.1, run.run.status_is),
           printed_so result (λ p printed. Unit {0}) (λ p printed. SamePictures pictures printed) run agree.0,
         )
 

@@ -17,9 +17,8 @@ use Rattle.tp_scene.specs.Beginning.{first_moment}
 use Rattle.tp_show.specs.declared.turn.Picture.{Picture}
 use Rattle.tp_show.specs.declared.turn.Turn.{Turn}
 use Rattle.tp_show.specs.declared.turn.Turn.TheVariants as turn
-use Rattle.tp_show.specs.Line.{AreFactsOf}
-use Rattle.tp_run.specs.States.{Plan, setting, AreGlobals, StatesLead, LeadsTo}
-use Rattle.tp_run.specs.History.{RunEndsWith}
+use Rattle.tp_show.specs.FactsOf.{AreFactsOf}
+use Rattle.tp_run.specs.History.{Plan, setting, AreGlobals, StatesLead, LeadsTo, RunEndsWith}
 use Rattle.tp_run.proofs.StatesMean.{leads_sound, next_sound, lead_sound}
 use Rattle.tp_run.proofs.Given.{scene_laws, first_sound}
 

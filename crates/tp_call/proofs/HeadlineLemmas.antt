@@ -4,11 +4,10 @@ use Rattle.tp_meaning.specs.Fits.{ProgramFits}
 use Rattle.tp_show.specs.declared.turn.Picture.{Picture}
 use Rattle.tp_show.specs.declared.turn.Turn.{Turn}
 use Rattle.tp_show.specs.declared.turn.Turn.TheVariants as turn
-use Rattle.tp_run.specs.History.{RunEndsWith}
+use Rattle.tp_run.specs.History.{RunEndsWith, Plan}
 use Rattle.tp_run.specs.Advances.{EndOfRunMeans}
 use Rattle.tp_run.proofs.Given.{scene_laws, begin_laws, state_laws}
 use Rattle.tp_run.proofs.HistoryLemmas.{end_means}
-use Rattle.tp_run.specs.States.{Plan}
 use Rattle.tp_call.specs.Run.{EndSays}
 
 means : (plan : Plan) (pictures : List Picture) (answer : Turn) → ProgramFits plan.program → RunEndsWith plan pictures answer → EndOfRunMeans plan pictures answer

@@ -7,9 +7,8 @@ use Rattle.tp_verdict.specs.VerdictLaws.{VerdictIsRight}
 use Rattle.tp_monitor.specs.Told.{told_by_trace}
 use Rattle.tp_monitor.proofs.TraceRight.{trace_verdicts_are_right, undecided_by_trace_limits}
 use Rattle.tp_call.specs.EndLine.{verdict_line}
-use Rattle.tp_call.specs.Written.{Wrote}
-use Rattle.tp_call.specs.Answer.{IsJudged}
-use Rattle.tp_call.specs.Judged.{WritesVerdict}
+use Rattle.tp_call.specs.Files.{Wrote}
+use Rattle.tp_call.specs.Answer.{IsJudged, WritesVerdict}
 
 module _ (words : List (List ℕ)) (held : Option Held) (old new : Option (List ℕ)) (verdict : Verdict) (judged : IsJudged words held verdict) where
   is_right : VerdictIsRight (kinds_of judged.wide.globals) judged.wide.formula (told_by_trace judged.wide.globals judged.trace)

@@ -12,15 +12,15 @@ use Rattle.tp_store.specs.Known.{Variable}
 use Rattle.tp_show.specs.declared.turn.Picture.{Picture}
 use Rattle.tp_show.specs.declared.turn.Turn.{Turn}
 use Rattle.tp_show.specs.declared.turn.Turn.TheVariants as turn
-use Rattle.tp_show.specs.Line.{AreFactsOf, IsOneLine, fed_line, told_of}
-use Rattle.tp_show.specs.EndLine.{end_line}
+use Rattle.tp_show.specs.FactsOf.{AreFactsOf}
+use Rattle.tp_show.specs.Line.{IsOneLine, fed_line, told_of}
+use Rattle.tp_show.specs.Texts.{end_line}
 use Rattle.tp_show.specs.Told.{AreNames, IsPartOf, FitsIn64Bits}
-use Rattle.tp_show.specs.TraceLine.{opens_with_one}
+use Rattle.tp_show.specs.Trace.{opens_with_one}
 use Rattle.tp_show.specs.TraceOfRun.{PrintedState, printed_states_text}
 use Rattle.tp_show.proofs.EndPlaces.{number_read}
 use Rattle.tp_show.proofs.ToldLemmas.{parts_of_variables}
-use Rattle.tp_run.specs.States.{Plan}
-use Rattle.tp_run.specs.History.{RunEndsWith, Unsatisfiable, ContinuesEach}
+use Rattle.tp_run.specs.History.{Plan, RunEndsWith, Unsatisfiable, ContinuesEach}
 use Rattle.tp_run_laws.specs.Printable.{ProgramIsPrintable, InputsArePrintable}
 use Rattle.tp_run_laws.proofs.Phrases.{written_out, joined, decimal_one}
 use Rattle.tp_words.specs.declared.beside.Beside.{Beside}
@@ -33,12 +33,9 @@ use Rattle.tp_call.specs.declared.status.SourceKind.{SourceKind}
 use Rattle.tp_call.specs.declared.status.SourceKind.TheVariants as cause
 use Rattle.tp_call.specs.Source.{IsProgram}
 use Rattle.tp_call.specs.EndLine.{which_text, kind_text, place_text, refusal_words, refusal_line}
-use Rattle.tp_call.specs.Run.{EndSays, Settles, known_at_end}
-use Rattle.tp_call.specs.Printed.{settled_text}
-use Rattle.tp_call.specs.Written.{Wrote}
-use Rattle.tp_call.specs.Text.{finished_line, SatisfiedAsTold}
-use Rattle.tp_call.specs.TracedText.{TracedState, IsTraceLine, IsTraced, TracedTextTells}
-use Rattle.tp_call.specs.LastLine.{finished_openings, refuting_openings, stopped_openings, last_openings, state_limit_line, LineSays, EndsInLine, AsksForRun, LastLineSays}
+use Rattle.tp_call.specs.Run.{EndSays, Settles, known_at_end, settled_text}
+use Rattle.tp_call.specs.Files.{Wrote}
+use Rattle.tp_call.specs.Text.{finished_line, SatisfiedAsTold, TracedState, IsTraceLine, IsTraced, TracedTextTells, finished_openings, refuting_openings, stopped_openings, last_openings, state_limit_line, LineSays, EndsInLine, AsksForRun, LastLineSays}
 use Rattle.tp_call.specs.Answer.{RunsTo, Refuses, CallEnds, RunsOn, IsUnfinishedText, Answers}
 use Rattle.tp_call.proofs.FactLemmas.{run_facts, leads_facts}
 use Rattle.tp_call.proofs.NamesLemmas.{names_are}

@@ -5,6 +5,7 @@ pub mod SourceLemmas
 pub mod ProgramLemmas
 pub mod NamesLemmas
 pub mod RunLemmas
+pub mod EndKinds
 pub mod TurnLemmas
 pub mod HeadlineLemmas
 pub mod AnswerLemmas

@@ -9,10 +9,9 @@ use Rattle.std.proofs.lemmas.Grind.{flat_map-append}
 use Rattle.std.proofs.lemmas.List.Elements.{All-nil, All-cons, All-append, All-head, All-tail}
 use Rattle.tp_value.specs.Tree.{Tree}
 use Rattle.tp_show.specs.Line.{ToldState, IsOneLine, fed_line}
-use Rattle.tp_show.specs.TraceLine.{opens_with_one}
+use Rattle.tp_show.specs.Trace.{opens_with_one}
 use Rattle.tp_show.proofs.TraceDigits.{AllPass}
-use Rattle.tp_call.specs.TracedText.{IsTraceLine}
-use Rattle.tp_call.specs.LastLine.{last_openings, EndsInLine}
+use Rattle.tp_call.specs.Text.{IsTraceLine, last_openings, EndsInLine}
 use Rattle.tp_call.proofs.TracedOnce.{first_feed, fed_first, no_line, state_words, show_words, told_words}
 
 pub never : {X : Type 0} → false ≡ true → X

@@ -2,26 +2,23 @@
 use Rattle.std.proofs.Common.{◌≡◌, ℕ, List, length, Option, Some, IfSome, sym, ap, ◌∙◌, subst}
 use Rattle.tp_scene.specs.Pick.{Moment}
 use Rattle.tp_store.specs.Known.{Contents}
-use Rattle.tp_step.specs.declared.answer.Tally.{Tally}
+use Rattle.tp_step.specs.declared.tally.Tally.{Tally}
 use Rattle.tp_step.specs.declared.order.Order.{Order}
 use Rattle.tp_show.specs.declared.turn.Picture.{Picture}
 use Rattle.tp_show.specs.declared.turn.Turn.{Turn}
 use Rattle.tp_show.specs.declared.turn.Turn.TheVariants as turn
-use Rattle.tp_run.specs.States.{Plan, setting, limit_moment}
+use Rattle.tp_run.specs.History.{Plan, setting, limit_moment, RunEndsWith}
 use Rattle.tp_run.specs.Standing.{RunPlace, Standing, open_at, StateBecomes}
-use Rattle.tp_run.specs.Ordered.{IsNamedInOrder}
-use Rattle.tp_run.specs.History.{RunEndsWith}
+use Rattle.tp_run.specs.Ordered.{IsNamedInOrder, waits_in}
 use Rattle.tp_run.specs.Same.{FailsIn}
-use Rattle.tp_run.specs.Tried.{waits_in}
 use Rattle.tp_call.specs.declared.run.Ended.{Ended}
 use Rattle.tp_call.specs.declared.status.Status.{Status}
 use Rattle.tp_call.specs.declared.status.Status.TheVariants.{WriteFault, NoMemory}
-use Rattle.tp_call.specs.Run.{last_answer}
-use Rattle.tp_call.specs.Answer.{IsEndOfRun}
+use Rattle.tp_call.specs.Progress.{last_answer, AnswerMade, HasWritten, ClosesRun}
 use Rattle.tp_call.specs.Parts.{ClosesText}
-use Rattle.tp_call.specs.Progress.{AnswerMade, HasWritten, ClosesRun}
-use Rattle.tp_call.specs.InOrder.{MeetsInOrder, NamesInOrder, StatusInOrder, LastInOrder}
-use Rattle.tp_call.specs.Work.{AreTalliesOfRun}
+use Rattle.tp_call.specs.InOrder.{MeetsInOrder, NamesInOrder, StatusInOrder, AreTalliesOfRun}
+use Rattle.tp_call.specs.Worked.{LastInOrder}
+use Rattle.tp_call.proofs.EndKinds.{EndsRun}
 use Rattle.tp_call.proofs.TurnLemmas.{last_is_given, answer_of, answer_is, ends_run}
 use Rattle.tp_call.proofs.RunLemmas.{answered_there}
 use Rattle.tp_words.specs.declared.beside.Beside.{Beside}
@@ -86,11 +83,11 @@ tried_names plan order ps (turn.Over at kind) run tallies t = λ state fails.
     (record { pictures = ps; next = run.0; leads = run.1; count = run.3; named = (last, t.own.picks, waits_in t.own, t.own.rests, t.closes.agenda) })
 
 -- a status that no run ends with is no answer's
-pub no_end_in_order : (plan : Plan) (order : Order) (result : Status) → (IsEndOfRun result → ⊥) → StatusInOrder plan order result
+pub no_end_in_order : (plan : Plan) (order : Order) (result : Status) → (EndsRun result → ⊥) → StatusInOrder plan order result
 no_end_in_order plan order result never = λ answer is. absurd (never (ends_run answer result is))
 
 -- a call that ends as a run does has the status whose text it wrote
-pub closes_with : (line : List ℕ) (status : Status) (old new : Option (List ℕ)) (result : Status) → ClosesText line status old new result → IsEndOfRun result → result ≡ status
+pub closes_with : (line : List ℕ) (status : Status) (old new : Option (List ℕ)) (result : Status) → ClosesText line status old new result → EndsRun result → result ≡ status
 closes_with line status old new WriteFault c end = absurd end
 closes_with line status old new NoMemory c end = absurd end
 closes_with line status old new result c end = c.0

@@ -19,8 +19,7 @@ use Rattle.tp_monitor.specs.WideOf.{NamedWide, wide_of_source}
 use Rattle.tp_call.specs.declared.status.Refused.{Refused}
 use Rattle.tp_words.specs.declared.mode.Mode.{Mode}
 use Rattle.tp_words.specs.declared.mode.Mode.TheVariants.{Run, Print, Convert, Check, Drill}
-use Rattle.tp_call.specs.Spelling.{IsReadFromSpelling}
-use Rattle.tp_call.specs.Source.{IsSourceText, IsProgram, IsWideText, IsOutsideGrammar, IsNotRun, IsNotWide, IsRefusedAt, lexer_refusal, parser_refusal, checker_refusal}
+use Rattle.tp_call.specs.Source.{IsReadFromSpelling, IsSourceText, IsProgram, IsWideText, IsOutsideGrammar, IsNotRun, IsNotWide, IsRefusedAt, lexer_refusal, parser_refusal, checker_refusal}
 
 -- a refusal that the parser answers is no want of memory
 some_place : (source : List ℕ) (ts : List Token) (e : ParseRefusal) (r : Refused) → parser_refusal source ts e ≡ Some r → e ≢ NoMemory

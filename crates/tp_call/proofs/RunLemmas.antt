@@ -8,13 +8,13 @@ use Rattle.tp_show.specs.declared.turn.Picture.{Picture}
 use Rattle.tp_show.specs.declared.turn.Turn.{Turn}
 use Rattle.tp_show.specs.declared.turn.Turn.TheVariants as turn
 use Rattle.tp_show.specs.Told.{IsPictureInRange}
-use Rattle.tp_run.specs.States.{Plan, StateGoesOn, StatesLead}
+use Rattle.tp_run.specs.History.{Plan, StateGoesOn, StatesLead}
 use Rattle.tp_run.specs.Standing.{Standing, open_at, answered, RunPlace, AnswersState, StateBecomes, state_after}
 use Rattle.tp_run.specs.Advances.{Advances}
 use Rattle.tp_run.proofs.HistoryLemmas.{lead_more, advance_by, count_more, index_next, index_first}
-use Rattle.tp_call.specs.Printed.{written_state, states_text, lead_text, moment_with, next_moment}
-use Rattle.tp_call.specs.Written.{Wrote}
-use Rattle.tp_call.specs.Progress.{Turned, HasWritten}
+use Rattle.tp_call.specs.Run.{written_state, states_text, lead_text}
+use Rattle.tp_call.specs.Progress.{moment_with, next_moment, Turned, HasWritten}
+use Rattle.tp_call.specs.Files.{Wrote}
 use Rattle.tp_call.proofs.TurnLemmas.{carries_next, carries_nothing}
 use Rattle.tp_words.specs.declared.beside.Beside.{Beside}
 

@@ -11,19 +11,16 @@ use Rattle.tp_scene.specs.Pick.{Moment}
 use Rattle.tp_show.specs.declared.turn.Picture.{Picture}
 use Rattle.tp_show.specs.declared.turn.Turn.{Turn}
 use Rattle.tp_show.specs.declared.turn.Turn.TheVariants as turn
-use Rattle.tp_show.specs.Parts.{line_parts}
-use Rattle.tp_show.specs.Line.{told_lines, picture_lines}
-use Rattle.tp_show.specs.EndLine.{state_text, end_line}
+use Rattle.tp_show.specs.Line.{line_parts, told_lines, picture_lines}
+use Rattle.tp_show.specs.Texts.{state_text, end_line}
 use Rattle.tp_residual.specs.Residual.{trace_lines}
 use Rattle.tp_residual.proofs.OnePhrase.{alike_moments_have_one_phrase}
-use Rattle.tp_run.specs.History.{RunEndsWith}
-use Rattle.tp_run.specs.States.{Plan, globals_of, StatesLead}
-use Rattle.tp_run.specs.PicksOfRun.{beginning_of}
+use Rattle.tp_run.specs.History.{RunEndsWith, beginning_of, Plan, globals_of, StatesLead}
 use Rattle.tp_run.specs.SettledStates.{SettledState, led_states, settled_states}
 use Rattle.tp_run.specs.Same.{SamePicture, FailsNowhere}
 use Rattle.tp_run_laws.specs.AlikeRuns.{SameNext, SameStates, SameNamedCell, SameNamedEnd}
 use Rattle.tp_run_laws.proofs.SameName.{named_cell_text}
-use Rattle.tp_call.specs.Printed.{written_state, states_text, ended_text}
+use Rattle.tp_call.specs.Run.{written_state, states_text, ended_text}
 use Rattle.tp_words.specs.declared.beside.Beside.{Beside}
 use Rattle.tp_words.specs.declared.beside.Beside.TheVariants.{Nothing, TraceLines}
 

@@ -5,7 +5,7 @@ use Rattle.tp_store.specs.Known.{Variable}
 use Rattle.tp_kernel.specs.declared.fault.LimitKind.TheVariants as limit
 use Rattle.tp_show.specs.declared.turn.Turn.{Turn}
 use Rattle.tp_show.specs.declared.turn.Turn.TheVariants as turn
-use Rattle.tp_show.specs.EndLine.{end_line}
+use Rattle.tp_show.specs.Texts.{end_line}
 use Rattle.tp_show.proofs.EndPlaces.{number_read}
 use Rattle.tp_show.proofs.EndsToldLemmas.{end_lines_tell}
 use Rattle.tp_call.specs.declared.status.Status.{Status}

@@ -12,18 +12,17 @@ use Rattle.tp_decide.specs.Read.{shows_of}
 use Rattle.tp_show.specs.declared.turn.Picture.{Picture}
 use Rattle.tp_show.specs.declared.turn.Turn.{Turn}
 use Rattle.tp_show.specs.declared.turn.Turn.TheVariants as turn
-use Rattle.tp_show.specs.Line.{AreFactsOf, ToldState, told_of, told_text, picture_lines, pictures_text}
-use Rattle.tp_show.specs.EndLine.{end_line}
+use Rattle.tp_show.specs.FactsOf.{AreFactsOf, pictures_text}
+use Rattle.tp_show.specs.Line.{ToldState, told_of, told_text, picture_lines}
+use Rattle.tp_show.specs.Texts.{end_line}
 use Rattle.tp_show.specs.Told.{IsPictureInRange, FitsIn64Bits, IsEndLine, IsLastTurn, AgreesWithTold, told_shows}
 use Rattle.tp_show.specs.ToldLaws.{IsStateOf}
 use Rattle.tp_show.proofs.ReadBackLemmas.{texts_tell, pictures_told, are_told}
 use Rattle.tp_scene.specs.Pick.{Moment}
 use Rattle.tp_scene.specs.Beginning.{first_moment}
-use Rattle.tp_run.specs.States.{Plan, StatesLead, LeadsTo}
-use Rattle.tp_run.specs.History.{RunEndsWith, AgreesWithPictures, shown_from, SatisfiedExactly, ContinuesEach}
+use Rattle.tp_run.specs.History.{Plan, StatesLead, LeadsTo, RunEndsWith, AgreesWithPictures, shown_from, SatisfiedExactly, ContinuesEach}
 use Rattle.tp_call.specs.declared.status.Status.{Status}
-use Rattle.tp_call.specs.Run.{known_at_end}
-use Rattle.tp_call.specs.Printed.{states_text, lead_text, ended_text}
+use Rattle.tp_call.specs.Run.{known_at_end, states_text, lead_text, ended_text}
 use Rattle.tp_call.specs.Answer.{Prints, run_text}
 use Rattle.tp_call.specs.Text.{ReadsAs, finished_line, SatisfiedAsTold, ContinuesTold, TextTells}
 use Rattle.tp_call.proofs.FactLemmas.{run_facts}

@@ -13,17 +13,15 @@ use Rattle.tp_scene.specs.Beginning.{first_moment}
 use Rattle.tp_show.specs.declared.turn.Picture.{Picture}
 use Rattle.tp_show.specs.declared.turn.Turn.{Turn}
 use Rattle.tp_show.specs.declared.turn.Turn.TheVariants as turn
-use Rattle.tp_show.specs.Line.{AreFactsOf, IsOneLine}
-use Rattle.tp_show.specs.EndLine.{last_words, end_line}
-use Rattle.tp_show.specs.Trace.{IsTraceText}
-use Rattle.tp_show.specs.TraceLine.{IsVariableName}
+use Rattle.tp_show.specs.FactsOf.{AreFactsOf}
+use Rattle.tp_show.specs.Line.{IsOneLine}
+use Rattle.tp_show.specs.Texts.{last_words, end_line}
+use Rattle.tp_show.specs.Trace.{IsTraceText, IsVariableName, named_facts}
 use Rattle.tp_show.specs.TraceOfRun.{AreVariableNames, IsReadable, PrintedState, printed_states_text, CountFrom, IsEnding}
-use Rattle.tp_show.specs.TraceFacts.{named_facts}
 use Rattle.tp_show.proofs.PrintedBytes.{name_plain}
 use Rattle.tp_show.proofs.PrintedLines.{plain_one}
 use Rattle.tp_show.proofs.PrintedStates.{traces_tell_facts}
-use Rattle.tp_run.specs.States.{Plan, StatesLead, LeadsTo}
-use Rattle.tp_run.specs.History.{RunEndsWith}
+use Rattle.tp_run.specs.History.{Plan, StatesLead, LeadsTo, RunEndsWith}
 use Rattle.tp_run_laws.specs.Printable.{ProgramIsPrintable, InputsArePrintable}
 use Rattle.tp_run_laws.specs.PrintableRuns.{IsWrittenWithinLimits, RunIsPrintable}
 use Rattle.tp_run_laws.proofs.Tokens.{token_names_are_of_variables}
@@ -33,12 +31,14 @@ use Rattle.tp_run_laws.proofs.Runs.{runs_are_printable}
 use Rattle.tp_call.specs.declared.status.Status.{Status}
 use Rattle.tp_call.specs.declared.status.Status.TheVariants.{Finished, Contradictory, Undetermined, StateLimit, ReductionLimit, NumberLimit, ListLimit, CallLimit, NestLimit, InputMissing}
 use Rattle.tp_call.specs.Source.{IsProgram}
-use Rattle.tp_call.specs.Written.{Wrote}
+use Rattle.tp_call.specs.Files.{Wrote}
 use Rattle.tp_call.specs.Run.{known_at_end}
-use Rattle.tp_call.specs.Answer.{HasInputs, RunsTo, Refuses, CallEnds, Answers, IsEndOfRun}
-use Rattle.tp_call.specs.Trace.{TraceSays}
+use Rattle.tp_call.specs.Answer.{HasInputs, RunsTo, Refuses, CallEnds, Answers}
+use Rattle.tp_call.specs.Text.{TraceSays}
+use Rattle.tp_call.proofs.EndKinds.{EndsRun}
 use Rattle.tp_call.proofs.FactLemmas.{run_facts}
 use Rattle.tp_call.proofs.TracedLemmas.{run_printed, picture_of, HasTraceLines, run_is, run_pictures, run_further, all_printed, facts_printed}
+use Rattle.tp_call.proofs.TurnLemmas.{end_seen}
 
 -- ---- names
 
@@ -108,14 +108,14 @@ module _ (words : List (List ℕ)) (held : Option Held) (old new : Option (List 
   abbrev Ran : Status → Type 0
   Ran status = (text : List ℕ) × RunsTo words held status text × Wrote old new text
 
-  run_alone : (status : Status) → (Refuses words held status → ⊥) → IsEndOfRun status → (text : List ℕ) × CallEnds words held status text × Wrote old new text → Ran status
+  run_alone : (status : Status) → (Refuses words held status → ⊥) → EndsRun status → (text : List ℕ) × CallEnds words held status text × Wrote old new text → Ran status
   run_alone status never end (text, inl run, wrote) = (text, run, wrote)
-  run_alone status never end (text, inr (inl spelled), wrote) = absurd (subst IsEndOfRun spelled.status_is end)
-  run_alone status never end (text, inr (inr (inl made)), wrote) = absurd (subst IsEndOfRun made.status_is end)
-  run_alone status never end (text, inr (inr (inr (inl judges))), wrote) = absurd (subst IsEndOfRun judges.status_is end)
+  run_alone status never end (text, inr (inl spelled), wrote) = absurd (subst EndsRun spelled.status_is end)
+  run_alone status never end (text, inr (inr (inl made)), wrote) = absurd (subst EndsRun made.status_is end)
+  run_alone status never end (text, inr (inr (inr (inl judges))), wrote) = absurd (subst EndsRun judges.status_is end)
   run_alone status never end (text, inr (inr (inr (inr refused))), wrote) = absurd (never refused.0)
 
-  pub ran : (status : Status) → IsEndOfRun status → Answers words held old new status → Ran status
+  pub ran : (status : Status) → EndsRun status → Answers words held old new status → Ran status
   ran (Finished n) end a = run_alone (Finished n) (λ r. r) end a
   ran (Contradictory state clash) end a = run_alone (Contradictory state clash) (λ r. r) end a
   ran (Undetermined state cell) end a = run_alone (Undetermined state cell) (λ r. r) end a
@@ -183,7 +183,7 @@ module _ (words : List (List ℕ)) (held : Option Held) (old new : Option (List 
 
   pub trace_says : (result : Status) → Answers words held old new result → TraceSays words held old new result
   trace_says result a = λ files told end.
-      let r = ran result end a in
+      let r = ran result (end_seen result end) a in
       let run = r.1 in
       record {
         plan = run.plan;

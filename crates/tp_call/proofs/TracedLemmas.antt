@@ -14,16 +14,14 @@ use Rattle.tp_show.specs.declared.turn.Turn.TheVariants as turn
 use Rattle.tp_show.specs.declared.named_fact.NamedFact.{NamedFact}
 use Rattle.tp_show.specs.Line.{picture_lines, fed_line}
 use Rattle.tp_show.specs.TraceOfRun.{IsReadable, PrintedState, printed_state_lines, printed_states_text, IsFurtherLine, IsPrinted}
-use Rattle.tp_show.specs.TraceFacts.{named_facts}
-use Rattle.tp_show.specs.TraceLine.{opens_with_one}
-use Rattle.tp_run.specs.States.{Plan, StatesLead, LeadsTo}
-use Rattle.tp_run.specs.History.{RunEndsWith}
+use Rattle.tp_show.specs.Trace.{named_facts, opens_with_one}
+use Rattle.tp_run.specs.History.{Plan, StatesLead, LeadsTo, RunEndsWith}
 use Rattle.tp_run_laws.specs.Printable.{ProgramIsPrintable, InputsArePrintable}
 use Rattle.tp_run_laws.proofs.Moments.{MomentIsPrintable}
 use Rattle.tp_run_laws.proofs.Phrases.{written_out, joined, decimal_one, entries_one}
 use Rattle.tp_run_laws.proofs.Runs.{next_printable, begins_printable}
-use Rattle.tp_call.specs.TracedText.{trace_openings, IsTraceLine}
-use Rattle.tp_call.specs.Printed.{phrase_left, written_state, states_text, lead_text, ended_text}
+use Rattle.tp_call.specs.Text.{trace_openings, IsTraceLine}
+use Rattle.tp_call.specs.Run.{phrase_left, written_state, states_text, lead_text, ended_text}
 use Rattle.tp_words.specs.declared.beside.Beside.{Beside}
 use Rattle.tp_words.specs.declared.beside.Beside.TheVariants.{Nothing, TraceLines}
 

@@ -12,18 +12,16 @@ use Rattle.tp_kernel.specs.declared.fault.LimitKind.TheVariants as limit
 use Rattle.tp_store.specs.Known.{Variable, IsVariableOf, global_variable}
 use Rattle.tp_show.specs.declared.turn.Turn.{Turn}
 use Rattle.tp_show.specs.declared.turn.Turn.TheVariants.{Went, Finished, Contradictory, Undetermined, StateLimit, InputMissing, Over}
-use Rattle.tp_show.specs.Texts.{global_name, index_text, path_text}
-use Rattle.tp_show.specs.Parts.{LinePartTree, valued, measured, part_text, spaced_text}
-use Rattle.tp_show.specs.Line.{ToldState, shown_value, show_line, told_lines, told_text, IsOneLine, fed_line}
-use Rattle.tp_show.specs.EndLine.{last_words, end_line}
+use Rattle.tp_show.specs.Texts.{global_name, index_text, path_text, last_words, end_line}
+use Rattle.tp_show.specs.Line.{LinePartTree, valued, measured, part_text, spaced_text, ToldState, shown_value, show_line, told_lines, told_text, IsOneLine, fed_line}
 use Rattle.tp_show.specs.Told.{is_word_byte, IsWord, AreNames, IsPartOf, IsToldOf, IsLastTurn, IsEndLine}
-use Rattle.tp_show.specs.TraceLine.{state_opening, opens_with_one}
+use Rattle.tp_show.specs.Trace.{state_opening, opens_with_one}
 use Rattle.tp_show.proofs.PartLemmas.{named}
 use Rattle.tp_show.proofs.PrintedBytes.{text_plain, indices_plain}
 use Rattle.tp_show.proofs.PrintedLines.{plain_one}
 use Rattle.tp_show.proofs.ReadBackLemmas.{texts_tell}
 use Rattle.tp_run_laws.proofs.Phrases.{written_out, joined, decimal_one}
-use Rattle.tp_call.specs.TracedText.{trace_openings, IsTraceLine, TracedState, traced_text, IsTraced, IsOneEndLine, ReadsTracedAs}
+use Rattle.tp_call.specs.Text.{trace_openings, IsTraceLine, TracedState, traced_text, IsTraced, IsOneEndLine, ReadsTracedAs}
 
 -- ---- lines told apart
 

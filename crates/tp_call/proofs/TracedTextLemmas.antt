@@ -6,26 +6,26 @@ use Rattle.tp_io.specs.Held.{Held}
 use Rattle.tp_show.specs.declared.turn.Picture.{Picture}
 use Rattle.tp_show.specs.declared.turn.Turn.{Turn}
 use Rattle.tp_show.specs.declared.turn.Turn.TheVariants as turn
-use Rattle.tp_show.specs.Line.{AreFactsOf, ToldState, told_of}
-use Rattle.tp_show.specs.EndLine.{end_line}
+use Rattle.tp_show.specs.FactsOf.{AreFactsOf}
+use Rattle.tp_show.specs.Line.{ToldState, told_of}
+use Rattle.tp_show.specs.Texts.{end_line}
 use Rattle.tp_show.specs.Told.{IsToldOf, IsLastTurn, FitsIn64Bits}
 use Rattle.tp_show.specs.TraceOfRun.{PrintedState, printed_state_lines, printed_states_text}
 use Rattle.tp_show.proofs.ReadBackLemmas.{are_told}
-use Rattle.tp_run.specs.States.{Plan}
-use Rattle.tp_run.specs.History.{RunEndsWith, ContinuesEach}
+use Rattle.tp_run.specs.History.{Plan, RunEndsWith, ContinuesEach}
 use Rattle.tp_call.specs.declared.status.Status.{Status}
 use Rattle.tp_call.specs.declared.status.Status.TheVariants.{Finished, Undetermined, StateLimit, ReductionLimit, NumberLimit, ListLimit, CallLimit, NestLimit}
 use Rattle.tp_call.specs.Run.{status_of, known_at_end, EndSays}
-use Rattle.tp_call.specs.Written.{Wrote}
-use Rattle.tp_call.specs.Text.{finished_line, SatisfiedAsTold, ContinuesTold}
-use Rattle.tp_call.specs.TracedText.{TracedState, traced_text, IsTraced, IsOneEndLine, ReadsTracedAs, TracedTextTells, FinishedTracedSays, OpenTracedSays}
+use Rattle.tp_call.specs.Files.{Wrote}
+use Rattle.tp_call.specs.Text.{finished_line, SatisfiedAsTold, ContinuesTold, TracedState, traced_text, IsTraced, IsOneEndLine, ReadsTracedAs, TracedTextTells, FinishedTracedSays, OpenTracedSays}
 use Rattle.tp_call.specs.Answer.{RunsTo, Answers}
-use Rattle.tp_call.proofs.TurnLemmas.{answer_of, answer_is}
+use Rattle.tp_call.proofs.TurnLemmas.{answer_of, answer_is, open_seen}
 use Rattle.tp_call.proofs.FactLemmas.{run_facts}
 use Rattle.tp_call.proofs.TextLemmas.{told_all, all_states_of, exactly_told, continues_told, finished_length}
 use Rattle.tp_call.proofs.TracedLemmas.{picture_of, HasTraceLines}
 use Rattle.tp_call.proofs.TracedOnce.{told_of_traced, traced_once}
 use Rattle.tp_call.proofs.TraceLemmas.{ran, last_line, last_one, printed, pictures_are, text_is, have_trace_lines}
+use Rattle.tp_call.proofs.EndKinds.{StaysOpen}
 
 -- ---- what is told of printed states
 
@@ -125,12 +125,15 @@ module _ (words : List (List ℕ)) (held : Option Held) (old new : Option (List 
       → TracedTextTells words held old new (λ plan told last. ContinuesTold plan told)
   open_by files told status means r = tells_open words held old new files told status r.0 r.1 r.2 (means r.1.plan r.1.pictures (says words held old new files told status r.0 r.1))
 
+  left_open : (result : Status) → Answers words held old new result → (files : Held) → held ≡ Some files → StaysOpen result → TracedTextTells words held old new (λ plan told last. ContinuesTold plan told)
+  left_open (Undetermined state cell) a = λ files told o. open_by files told (Undetermined state cell) (λ plan printed h. h) (ran words held old new (Undetermined state cell) tt a)
+  left_open (StateLimit states) a = λ files told o. open_by files told (StateLimit states) (λ plan printed h. h) (ran words held old new (StateLimit states) tt a)
+  left_open (ReductionLimit state) a = λ files told o. open_by files told (ReductionLimit state) (λ plan printed h. h) (ran words held old new (ReductionLimit state) tt a)
+  left_open (NumberLimit state) a = λ files told o. open_by files told (NumberLimit state) (λ plan printed h. h) (ran words held old new (NumberLimit state) tt a)
+  left_open (ListLimit state) a = λ files told o. open_by files told (ListLimit state) (λ plan printed h. h) (ran words held old new (ListLimit state) tt a)
+  left_open (CallLimit state) a = λ files told o. open_by files told (CallLimit state) (λ plan printed h. h) (ran words held old new (CallLimit state) tt a)
+  left_open (NestLimit state) a = λ files told o. open_by files told (NestLimit state) (λ plan printed h. h) (ran words held old new (NestLimit state) tt a)
+  left_open result a = λ files told o. absurd o
+
   pub open_traced : (result : Status) → Answers words held old new result → OpenTracedSays words held old new result
-  open_traced (Undetermined state cell) a = λ files told o. open_by files told (Undetermined state cell) (λ plan printed h. h) (ran words held old new (Undetermined state cell) tt a)
-  open_traced (StateLimit states) a = λ files told o. open_by files told (StateLimit states) (λ plan printed h. h) (ran words held old new (StateLimit states) tt a)
-  open_traced (ReductionLimit state) a = λ files told o. open_by files told (ReductionLimit state) (λ plan printed h. h) (ran words held old new (ReductionLimit state) tt a)
-  open_traced (NumberLimit state) a = λ files told o. open_by files told (NumberLimit state) (λ plan printed h. h) (ran words held old new (NumberLimit state) tt a)
-  open_traced (ListLimit state) a = λ files told o. open_by files told (ListLimit state) (λ plan printed h. h) (ran words held old new (ListLimit state) tt a)
-  open_traced (CallLimit state) a = λ files told o. open_by files told (CallLimit state) (λ plan printed h. h) (ran words held old new (CallLimit state) tt a)
-  open_traced (NestLimit state) a = λ files told o. open_by files told (NestLimit state) (λ plan printed h. h) (ran words held old new (NestLimit state) tt a)
-  open_traced result a = λ files told o. absurd o
+  open_traced result a = λ files told end. left_open result a files told (open_seen result end)

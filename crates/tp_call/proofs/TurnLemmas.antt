@@ -10,22 +10,20 @@ use Rattle.tp_show.specs.declared.turn.Turn.TheVariants as turn
 use Rattle.tp_meaning.specs.Interval.{ProgramTree, kinds_of}
 use Rattle.tp_scene.specs.Scene.{Scene}
 use Rattle.tp_scene.specs.Pick.{Moment}
-use Rattle.tp_residual.specs.Residual.{AreCarried}
+use Rattle.tp_residual.specs.Carried.{AreCarried}
 use Rattle.tp_residual.proofs.Carried.{next_scenes_are_carried}
-use Rattle.tp_run.specs.States.{Plan, setting}
+use Rattle.tp_run.specs.History.{Plan, setting}
 use Rattle.tp_run.specs.Standing.{RunPlace, Standing, open_at, answered, spent, state_after, StateBecomes, AnswersState}
 use Rattle.tp_run.specs.Runs.{StandsSound, carried_scene}
-use Rattle.tp_show.specs.Parts.{line_parts}
-use Rattle.tp_show.specs.Read.{plain_parts}
+use Rattle.tp_show.specs.Line.{line_parts, plain_parts}
 use Rattle.tp_call.specs.Places.{StandsOpen}
 use Rattle.tp_call.specs.declared.status.Status.{Status}
 use Rattle.tp_call.specs.declared.status.Status.TheVariants.{Finished, Done, Contradictory, Undetermined, StateLimit, ReductionLimit, NumberLimit, ListLimit, CallLimit, NestLimit, InputMissing, SourceRefused, InputsRefused, WordsRefused, TooLong, ReadFault, WriteFault, NoMemory, OtherRefused, TraceTooLong}
 use Rattle.tp_show.specs.Told.{IsPictureInRange, IsLastTurn}
-use Rattle.tp_call.specs.Run.{last_answer, limit_end, status_of}
-use Rattle.tp_call.specs.Answer.{IsEndOfRun}
-use Rattle.tp_call.specs.Printed.{written_state, next_moment}
-use Rattle.tp_call.specs.Written.{Wrote}
-use Rattle.tp_call.specs.Progress.{Turned, is_settled, printed_lines, AnswerMade, TurnMade}
+use Rattle.tp_call.specs.Progress.{last_answer, next_moment, Turned, is_settled, printed_lines, AnswerMade, TurnMade}
+use Rattle.tp_call.specs.Run.{limit_end, status_of, written_state, IsEndOfRun, IsOpenTurn, IsOpenEnd}
+use Rattle.tp_call.specs.Files.{Wrote}
+use Rattle.tp_call.proofs.EndKinds.{EndsRun, StaysOpen}
 use Rattle.tp_words.specs.declared.beside.Beside.{Beside}
 
 -- the call gives this answer, and what was to be written of it, by the run's program, was
@@ -146,18 +144,49 @@ answer_is (turn.Over state limit.Calls) status e = subst (λ s. turn.Over state 
 answer_is (turn.Over state limit.Nest) status e = subst (λ s. turn.Over state limit.Nest ≡ answer_of s) (some_is e) refl
 
 -- which is one with which a run ends
-pub ends_run : (answer : Turn) (status : Status) → status_of answer ≡ Some status → IsEndOfRun status
+pub ends_run : (answer : Turn) (status : Status) → status_of answer ≡ Some status → EndsRun status
 ends_run turn.Went status e = cc
-ends_run (turn.Finished length) status e = subst IsEndOfRun (some_is e) tt
-ends_run (turn.Contradictory state clash) status e = subst IsEndOfRun (some_is e) tt
-ends_run (turn.Undetermined state cell) status e = subst IsEndOfRun (some_is e) tt
-ends_run (turn.StateLimit states) status e = subst IsEndOfRun (some_is e) tt
-ends_run (turn.InputMissing state port) status e = subst IsEndOfRun (some_is e) tt
-ends_run (turn.Over state limit.Reductions) status e = subst IsEndOfRun (some_is e) tt
-ends_run (turn.Over state limit.Number) status e = subst IsEndOfRun (some_is e) tt
-ends_run (turn.Over state limit.List) status e = subst IsEndOfRun (some_is e) tt
-ends_run (turn.Over state limit.Calls) status e = subst IsEndOfRun (some_is e) tt
-ends_run (turn.Over state limit.Nest) status e = subst IsEndOfRun (some_is e) tt
+ends_run (turn.Finished length) status e = subst EndsRun (some_is e) tt
+ends_run (turn.Contradictory state clash) status e = subst EndsRun (some_is e) tt
+ends_run (turn.Undetermined state cell) status e = subst EndsRun (some_is e) tt
+ends_run (turn.StateLimit states) status e = subst EndsRun (some_is e) tt
+ends_run (turn.InputMissing state port) status e = subst EndsRun (some_is e) tt
+ends_run (turn.Over state limit.Reductions) status e = subst EndsRun (some_is e) tt
+ends_run (turn.Over state limit.Number) status e = subst EndsRun (some_is e) tt
+ends_run (turn.Over state limit.List) status e = subst EndsRun (some_is e) tt
+ends_run (turn.Over state limit.Calls) status e = subst EndsRun (some_is e) tt
+ends_run (turn.Over state limit.Nest) status e = subst EndsRun (some_is e) tt
+
+-- the two ways of saying it are one
+pub end_seen : (status : Status) → IsEndOfRun status → EndsRun status
+end_seen status end = ends_run end.0 status end.1
+
+pub end_told : (status : Status) → EndsRun status → IsEndOfRun status
+end_told (Finished length) end = (turn.Finished length, refl)
+end_told (Contradictory state clash) end = (turn.Contradictory state clash, refl)
+end_told (Undetermined state cell) end = (turn.Undetermined state cell, refl)
+end_told (StateLimit states) end = (turn.StateLimit states, refl)
+end_told (ReductionLimit state) end = (turn.Over state limit.Reductions, refl)
+end_told (NumberLimit state) end = (turn.Over state limit.Number, refl)
+end_told (ListLimit state) end = (turn.Over state limit.List, refl)
+end_told (CallLimit state) end = (turn.Over state limit.Calls, refl)
+end_told (NestLimit state) end = (turn.Over state limit.Nest, refl)
+end_told (InputMissing state port) end = (turn.InputMissing state port, refl)
+end_told status end = absurd end
+
+-- the same of those that leave it open
+pub open_seen : (status : Status) → IsOpenEnd status → StaysOpen status
+open_seen status end = by end.0 end.1 end.2
+  where
+    by : (answer : Turn) → IsOpenTurn answer → status_of answer ≡ Some status → StaysOpen status
+    by (turn.Undetermined state cell) o e = subst StaysOpen (some_is e) tt
+    by (turn.StateLimit states) o e = subst StaysOpen (some_is e) tt
+    by (turn.Over state limit.Reductions) o e = subst StaysOpen (some_is e) tt
+    by (turn.Over state limit.Number) o e = subst StaysOpen (some_is e) tt
+    by (turn.Over state limit.List) o e = subst StaysOpen (some_is e) tt
+    by (turn.Over state limit.Calls) o e = subst StaysOpen (some_is e) tt
+    by (turn.Over state limit.Nest) o e = subst StaysOpen (some_is e) tt
+    by answer o e = absurd o
 
 -- the parts of the picture of a state that is settled are those of its facts
 pub settled_parts : (plan : Plan) (from to : RunPlace) (old new : Picture) (answer : Turn) → StandsOpen from.standing → AnswersState plan from old new to answer → is_settled answer ≡ true → plain_parts new.parts ≡ line_parts new.facts

@@ -12,7 +12,7 @@ use Rattle.tp_scene.specs.declared.answer.Clash.{Clash}
 use Rattle.tp_scene.specs.Pick.{Moment}
 use Rattle.tp_scene.specs.Beginning.{first_moment}
 use Rattle.tp_scene.specs.Replay as replay
-use Rattle.tp_step.specs.declared.answer.Tally.{Tally}
+use Rattle.tp_step.specs.declared.tally.Tally.{Tally}
 use Rattle.tp_step.specs.declared.order.Order.{Order}
 use Rattle.tp_step.specs.declared.ending.Ending.{Ending}
 use Rattle.tp_step.specs.declared.ending.Ending.TheVariants as ending
@@ -20,30 +20,28 @@ use Rattle.tp_meaning.specs.Interval.{ProgramTree}
 use Rattle.tp_show.specs.declared.turn.Picture.{Picture}
 use Rattle.tp_show.specs.declared.turn.Turn.{Turn}
 use Rattle.tp_show.specs.declared.turn.Turn.TheVariants as turn
-use Rattle.tp_show.specs.EndLine.{end_line}
+use Rattle.tp_show.specs.Texts.{end_line}
 use Rattle.tp_show.specs.Told.{IsPictureInRange, IsLastTurn}
-use Rattle.tp_run.specs.States.{Plan, setting, StateGoesOn, StatesLead, LeadsTo, ReachesLimit, limit_moment}
-use Rattle.tp_run.specs.PicksOfRun.{limit_picks, beginning_of}
-use Rattle.tp_run.specs.History.{RunEndsWith, end_store}
+use Rattle.tp_run.specs.History.{Plan, setting, StateGoesOn, StatesLead, LeadsTo, ReachesLimit, limit_moment, limit_picks, beginning_of, RunEndsWith, end_store}
 use Rattle.tp_run.specs.Runs.{program_of, store_of}
 use Rattle.tp_run.specs.Standing.{RunPlace, Standing, open_at, AnswersState, StateBecomes, state_after}
-use Rattle.tp_run.specs.Tried.{recorded_tries, ClosesThriftily}
+use Rattle.tp_run.specs.Ordered.{recorded_tries, ClosesThriftily}
 use Rattle.tp_run.specs.StateTries.{IsTallyOf, CountsStateTries, BeginsNoState}
 use Rattle.tp_run.proofs.HistoryLemmas.{goes_there, lead_more, index_there, index_next, index_first}
 use Rattle.tp_call.specs.declared.run.Ended.{Ended}
 use Rattle.tp_call.specs.declared.run.Task.{Task}
 use Rattle.tp_call.specs.declared.status.Status.{Status}
 use Rattle.tp_call.specs.declared.status.Status.TheVariants.{WriteFault, NoMemory}
-use Rattle.tp_call.specs.Run.{last_answer, RunEnds}
+use Rattle.tp_call.specs.Progress.{last_answer, next_moment, is_settled, printed_lines, ClosesRun}
+use Rattle.tp_call.specs.Run.{RunEnds, written_state, lead_text, ended_text, IsEndOfRun}
 use Rattle.tp_call.specs.Task.{plan_of, IsTaskFor}
-use Rattle.tp_call.specs.Answer.{IsEndOfRun, run_text}
+use Rattle.tp_call.specs.Answer.{run_text}
 use Rattle.tp_call.specs.Parts.{ClosesText}
-use Rattle.tp_call.specs.Printed.{written_state, lead_text, ended_text, next_moment}
-use Rattle.tp_call.specs.Progress.{is_settled, printed_lines, ClosesRun}
-use Rattle.tp_call.specs.Work.{AreTalliesOf, AreTalliesTo, AreTalliesOfRun, all_tries, RunTried, WorksThriftily}
+use Rattle.tp_call.specs.InOrder.{AreTalliesOf, AreTalliesTo, AreTalliesOfRun, all_tries, RunTried, WorksThriftily}
 use Rattle.tp_call.specs.Worked.{HasTried, StateTried, StateWorked, HasWorked, WorkEnded}
-use Rattle.tp_call.specs.Written.{Wrote}
-use Rattle.tp_call.proofs.TurnLemmas.{last_is_given, is_last, goes_with}
+use Rattle.tp_call.specs.Files.{Wrote}
+use Rattle.tp_call.proofs.EndKinds.{EndsRun}
+use Rattle.tp_call.proofs.TurnLemmas.{last_is_given, is_last, goes_with, end_seen}
 use Rattle.tp_call.proofs.RunLemmas.{Wrote-both, HasWritten-none, written_more, no_next}
 use Rattle.tp_call.proofs.OrderLemmas.{closes_with}
 use Rattle.tp_words.specs.declared.beside.Beside.{Beside}
@@ -293,7 +291,7 @@ module _ (plan : Plan) (beside : Beside) (order : Order) (from to : RunPlace) (b
       }
 
 -- a call that ends as a run does has written its line
-closes_wrote : (line : List ℕ) (status : Status) (old new : Option (List ℕ)) (result : Status) → ClosesText line status old new result → IsEndOfRun result → Wrote old new line
+closes_wrote : (line : List ℕ) (status : Status) (old new : Option (List ℕ)) (result : Status) → ClosesText line status old new result → EndsRun result → Wrote old new line
 closes_wrote line status old new WriteFault c end = absurd end
 closes_wrote line status old new NoMemory c end = absurd end
 closes_wrote line status old new result c end = c.1
@@ -306,10 +304,10 @@ task_works words held task old new before mid after ended result is w c end =
     let asked = is.asked_for in
     let beside : asked.wanted.beside ≡ task.beside = is.beside asked.wanted asked.accepted in
     let order : asked.wanted.order ≡ task.order = is.order asked.wanted asked.accepted in
-    let same : result ≡ c.0 = closes_with _ c.0 mid after result c.2 end in
+    let same : result ≡ c.0 = closes_with _ c.0 mid after result c.2 (end_seen result end) in
     let run : RunEnds plan w.pictures result = record { answer = ended.turn; status_is = c.1 ∙ ap Some (sym same); run = w.run } in
     let line : ProgramTree → Contents → List ℕ = λ p k. end_line p.globals k.variables task.limits.reductions ended.turn in
-    let wrote = closes_wrote (line (program_of ended.run) (store_of ended.run)) c.0 mid after result c.2 end in
+    let wrote = closes_wrote (line (program_of ended.run) (store_of ended.run)) c.0 mid after result c.2 (end_seen result end) in
     let named = subst (λ p. Wrote mid after (line p (store_of ended.run))) w.program_is wrote in
     let known = subst (λ k. Wrote mid after (line plan.program k)) w.store_is named in
     let text = Wrote-both before mid after _ _ w.wrote known in

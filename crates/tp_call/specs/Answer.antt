@@ -3,10 +3,9 @@ use Rattle.std.specs.Prelude.{◌≡◌, ◌⊎◌, ◌≤◌, ◌<◌, ◌^◌,
 use Rattle.tp_lex.specs.Place.{source_limit}
 use Rattle.tp_io.specs.Held.{Held, bytes_of}
 use Rattle.tp_show.specs.declared.turn.Picture.{Picture}
-use Rattle.tp_run.specs.States.{Plan}
+use Rattle.tp_run.specs.History.{Plan}
 use Rattle.tp_call.specs.declared.status.Refused.{Refused}
-use Rattle.tp_call.specs.Source.{IsProgram, IsSourceText, IsWideText, IsRefusedAt}
-use Rattle.tp_call.specs.Spelling.{IsReadFromSpelling}
+use Rattle.tp_call.specs.Source.{IsProgram, IsSourceText, IsWideText, IsRefusedAt, IsReadFromSpelling}
 use Rattle.tp_call.specs.declared.status.Status.{Status}
 use Rattle.tp_call.specs.declared.status.Status.TheVariants.{Finished, Done, Contradictory, Undetermined, StateLimit, ReductionLimit, NumberLimit, ListLimit, CallLimit, NestLimit, InputMissing, SourceRefused, InputsRefused, WordsRefused, TooLong, ReadFault, WriteFault, NoMemory, OtherRefused, TraceTooLong}
 use Rattle.tp_call.specs.declared.status.Which.{Which}
@@ -21,22 +20,25 @@ use Rattle.tp_meaning.specs.Inputs.{InputTable}
 use Rattle.tp_inputs.specs.declared.fault.Fault.{Fault}
 use Rattle.tp_inputs.specs.Table.{IsInputsText, IsFirstFault}
 use Rattle.tp_inputs.specs.Converted.{converted}
-use Rattle.tp_show.specs.EndLine.{end_line}
+use Rattle.tp_show.specs.Texts.{end_line}
 use Rattle.tp_show.specs.Told.{AreNames, IsPictureInRange}
 use Rattle.tp_show.specs.declared.named_fact.NamedFact.{NamedFact}
 use Rattle.tp_show.specs.Trace.{IsTraceText, IsFirstBadLine}
-use Rattle.tp_verdict.specs.Verdict.{Verdict}
-use Rattle.tp_verdict.specs.Sound.{WideFits}
+use Rattle.tp_verdict.specs.Verdict.{Verdict, yes, no, undecided}
+use Rattle.tp_verdict.specs.Trace.{WideFits, IsTold, known_in, known_outcome, AreAllKnown}
 use Rattle.tp_monitor.specs.WideOf.{NamedWide}
-use Rattle.tp_monitor.specs.Told.{state_limit, verdict_by}
+use Rattle.tp_monitor.specs.Told.{state_limit, verdict_by, told_by_trace}
 use Rattle.tp_call.specs.EndLine.{refusal_line, verdict_line}
 use Rattle.tp_meaning.specs.Interval.{ProgramTree, kinds_of}
 use Rattle.tp_meaning.specs.Fits.{ProgramFits}
-use Rattle.tp_call.specs.Run.{EndSays, RunEnds, known_at_end, Settles}
-use Rattle.tp_call.specs.Printed.{ended_text, settled_text}
-use Rattle.tp_call.specs.Written.{Wrote}
-use Rattle.tp_call.specs.Files.{files_read, IsFoundIn}
+use Rattle.tp_call.specs.Run.{EndSays, RunEnds, known_at_end, Settles, ended_text, settled_text}
+use Rattle.tp_call.specs.Files.{Wrote, files_read, IsFoundIn}
 use Rattle.tp_words.specs.declared.beside.Beside.{Beside}
+use Rattle.tp_kernel.specs.declared.fault.LimitKind.{LimitKind}
+use Rattle.tp_meaning.specs.Syntax.{ExprTree}
+use Rattle.tp_meaning.specs.Course.{Course, Shows, blank}
+use Rattle.tp_eval.specs.Outcome.{over}
+use Rattle.tp_verdict.specs.Wide.{WideHolds, IsExprOf}
 
 -- where the value is told, it has P
 abbrev pub WhereTold : {X : Type 0} → Option X → (X → Type 0) → Type 0
@@ -326,27 +328,9 @@ pub record Prints (words : List (List ℕ)) (held : Option Held) (old new : Opti
   pub range : All IsPictureInRange pictures
   pub says : P plan pictures
 
--- The source that is asked for was printed: its canonical spelling was appended, which is read back
--- as this source.
-pub record WritesSpelling (words : List (List ℕ)) (held : Option Held)
-    (old new : Option (List ℕ)) : Type 0 where
-  pub tree : SourceTree
-  pub asked : IsAskedToPrint words held tree
-  pub appended : Wrote old new (source_spelling tree)
-  pub read_back : IsReadFromSpelling tree
-
 -- the source is to be printed, and is one of the grammar with this tree
 abbrev pub IsToPrint : SourceTree → Mode → List ℕ → Type 0
 IsToPrint tree mode source = (mode ≡ Print) × HoldsSource tree source
-
--- The inputs that are asked for were converted: the text of their table was appended, which is read
--- back as this table.
-pub record WritesTable (words : List (List ℕ)) (held : Option Held)
-    (old new : Option (List ℕ)) : Type 0 where
-  pub table : InputTable
-  pub asked : IsAskedToConvert words held table
-  pub appended : Wrote old new (converted table)
-  pub read_back : IsInputsText (converted table) table
 
 -- the inputs are to be converted, and are this table
 abbrev pub IsToConvert : InputTable → Mode → List ℕ → Type 0
@@ -355,53 +339,6 @@ IsToConvert table mode bytes = (mode ≡ Convert) × HoldsTable table bytes
 -- the answer is this one, unless a write failed or memory was wanted
 abbrev pub IsOrStopped : Status → Status → Type 0
 IsOrStopped status result = (result ≡ status) ⊎ (result ≡ WriteFault) ⊎ (result ≡ NoMemory)
-
--- a run ended: the answer is none of a source that is printed, inputs that are converted or a trace
--- that is judged, of a refusal, of a fault or of want of memory
-abbrev pub IsEndOfRun : Status → Type 0
-IsEndOfRun (Finished length) = Unit {0}
-IsEndOfRun (Contradictory state clash) = Unit {0}
-IsEndOfRun (Undetermined state cell) = Unit {0}
-IsEndOfRun (StateLimit states) = Unit {0}
-IsEndOfRun (ReductionLimit state) = Unit {0}
-IsEndOfRun (NumberLimit state) = Unit {0}
-IsEndOfRun (ListLimit state) = Unit {0}
-IsEndOfRun (CallLimit state) = Unit {0}
-IsEndOfRun (NestLimit state) = Unit {0}
-IsEndOfRun (InputMissing state port) = Unit {0}
-IsEndOfRun Done = ⊥
-IsEndOfRun (SourceRefused line column kind) = ⊥
-IsEndOfRun (InputsRefused line) = ⊥
-IsEndOfRun (OtherRefused line) = ⊥
-IsEndOfRun (TraceTooLong states) = ⊥
-IsEndOfRun WordsRefused = ⊥
-IsEndOfRun (TooLong which) = ⊥
-IsEndOfRun (ReadFault which) = ⊥
-IsEndOfRun WriteFault = ⊥
-IsEndOfRun NoMemory = ⊥
-
--- a run ended before it was known whether an interval satisfies the program
-abbrev pub IsOpenEnd : Status → Type 0
-IsOpenEnd (Finished length) = ⊥
-IsOpenEnd (Contradictory state clash) = ⊥
-IsOpenEnd (Undetermined state cell) = Unit {0}
-IsOpenEnd (StateLimit states) = Unit {0}
-IsOpenEnd (ReductionLimit state) = Unit {0}
-IsOpenEnd (NumberLimit state) = Unit {0}
-IsOpenEnd (ListLimit state) = Unit {0}
-IsOpenEnd (CallLimit state) = Unit {0}
-IsOpenEnd (NestLimit state) = Unit {0}
-IsOpenEnd (InputMissing state port) = ⊥
-IsOpenEnd Done = ⊥
-IsOpenEnd (SourceRefused line column kind) = ⊥
-IsOpenEnd (InputsRefused line) = ⊥
-IsOpenEnd (OtherRefused line) = ⊥
-IsOpenEnd (TraceTooLong states) = ⊥
-IsOpenEnd WordsRefused = ⊥
-IsOpenEnd (TooLong which) = ⊥
-IsOpenEnd (ReadFault which) = ⊥
-IsOpenEnd WriteFault = ⊥
-IsOpenEnd NoMemory = ⊥
 
 -- a read or a write failed, or memory was wanted
 abbrev pub HasFailed : Status → Type 0
@@ -415,3 +352,42 @@ IsOrFailed status result = (result ≡ status) ⊎ HasFailed result
 -- the status of a refusal
 abbrev pub refused_status : Refused → Status
 refused_status refused = SourceRefused refused.line refused.column refused.kind
+
+-- ---- a trace that is checked by a wider formula
+
+-- an interval of the formula's variables is as the trace tells
+abbrev pub IsAsTraceTells : NamedWide → (trace : List (List NamedFact)) → Course → ℕ → ℕ → Type 0
+IsAsTraceTells wide trace s a b =
+    IsTold (kinds_of wide.globals) (told_by_trace wide.globals trace) s a b
+
+-- in each of its states the trace tells all of the formula's variables
+abbrev pub TellsAllVariables : NamedWide → (trace : List (List NamedFact)) → Type 0
+TellsAllVariables wide trace =
+    (i : ℕ) → i < length trace
+    → AreAllKnown (kinds_of wide.globals) (known_in (told_by_trace wide.globals trace) i)
+
+-- in some state the evaluation of one of the formula's expressions passes a limit
+abbrev pub PassesALimit : NamedWide → (trace : List (List NamedFact)) → Type 0
+PassesALimit wide trace =
+    (e : ExprTree) × IsExprOf wide.formula e × (i : ℕ) × (i < length trace)
+    × (kind : LimitKind) × (known_outcome (told_by_trace wide.globals trace) i e ≡ over kind)
+
+-- The trace that is asked for was judged by the wider formula: the line of the verdict was
+-- appended. With `holds` the formula holds on each interval that is as the trace tells, and shows
+-- nothing there; with `does not hold` it holds on none. With `open`, where the trace tells all
+-- variables in each state, an evaluation passes a limit.
+pub record WritesVerdict (words : List (List ℕ)) (held : Option Held)
+    (old new : Option (List ℕ)) : Type 0 where
+  pub wide : NamedWide
+  pub trace : List (List NamedFact)
+  pub asked : IsAskedToCheck words held wide trace
+  pub within : length trace ≤ state_limit
+  pub appended : Wrote old new (verdict_line (verdict_by wide trace))
+  pub holds : verdict_by wide trace ≡ yes
+      → (s : Course) (a b : ℕ) → IsAsTraceTells wide trace s a b
+      → WideHolds wide.formula s a b blank
+  pub fails : verdict_by wide trace ≡ no
+      → (s : Course) (a b : ℕ) → IsAsTraceTells wide trace s a b
+      → (S : Shows) → WideHolds wide.formula s a b S → ⊥
+  pub stays_open : verdict_by wide trace ≡ undecided → TellsAllVariables wide trace
+      → PassesALimit wide trace

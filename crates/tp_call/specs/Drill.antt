@@ -6,23 +6,20 @@ use Rattle.tp_gen.specs.Source.{source_text}
 use Rattle.tp_meaning.specs.Fits.{ProgramFits}
 use Rattle.tp_show.specs.declared.turn.Picture.{Picture}
 use Rattle.tp_show.specs.declared.turn.Turn.{Turn}
-use Rattle.tp_show.specs.declared.turn.Turn.TheVariants as turn
-use Rattle.tp_show.specs.EndLine.{end_line}
-use Rattle.tp_run.specs.States.{Plan, globals_of}
-use Rattle.tp_run.specs.History.{RunEndsWith, SatisfiedExactly, Satisfiable}
+use Rattle.tp_show.specs.Texts.{end_line}
+use Rattle.tp_run.specs.History.{Plan, globals_of, RunEndsWith, SatisfiedExactly, Satisfiable}
 use Rattle.tp_words.specs.declared.mode.Mode.TheVariants.{Drill}
 use Rattle.tp_words.specs.Words.{Wanted, wanted_of}
 use Rattle.tp_call.specs.declared.status.Status.{Status}
-use Rattle.tp_call.specs.declared.status.Status.TheVariants.{Finished, Done, Contradictory, Undetermined, StateLimit, ReductionLimit, NumberLimit, ListLimit, CallLimit, NestLimit, InputMissing, SourceRefused, InputsRefused, WordsRefused, TooLong, ReadFault, WriteFault, NoMemory, OtherRefused, TraceTooLong}
+use Rattle.tp_call.specs.declared.status.Status.TheVariants.{Finished, Done, WriteFault, NoMemory}
 use Rattle.tp_call.specs.declared.status.Refused.{Refused}
 use Rattle.tp_call.specs.EndLine.{refusal_line}
-use Rattle.tp_call.specs.Written.{Wrote}
+use Rattle.tp_call.specs.Files.{Wrote}
 use Rattle.tp_call.specs.Run.{RunEnds, EndSays, known_at_end}
-use Rattle.tp_call.specs.InOrder.{NamesInOrder}
-use Rattle.tp_call.specs.Work.{RunTried}
+use Rattle.tp_call.specs.InOrder.{NamesInOrder, RunTried}
 use Rattle.tp_call.specs.Source.{IsProgram, IsRefusedAt}
 use Rattle.tp_call.specs.Answer.{refused_status}
-use Rattle.tp_call.specs.EveryOrder.{ComesTo}
+use Rattle.tp_call.specs.EachRun.{ComesTo}
 
 -- the words are accepted, and ask for a drill of this size
 pub record AsksForDrill (words : List (List ℕ)) (size : ℕ) : Type 0 where
@@ -106,56 +103,22 @@ DrillEnds words size before after status text =
     ⊎ DrillStopped words size before after status text ⊎ DrillRefused words size status text
 
 module _ (words : List (List ℕ)) (size : ℕ) (old new : Option (List ℕ)) (before after : ℕ) where
-  -- the whole text of such an end was appended
-  abbrev WroteWhole : (List ℕ → Type 0) → Type 0
-  WroteWhole P = (text : List ℕ) × P text × Wrote old new text
-
-  -- that of a run which ended with this status, and didn't finish
-  abbrev WroteStopped : Status → Type 0
-  WroteStopped status = WroteWhole (DrillStopped words size before after status)
-
   -- What a drill answered and wrote, with the count of tries before and after it. After a failed
   -- write it is a part of its text, from the start; where memory was wanted nothing was written.
   abbrev pub DrillAnswers : Status → Type 0
-  DrillAnswers Done = WroteWhole (DrillFinished words size before after)
-  DrillAnswers (Contradictory state clash) = WroteStopped (Contradictory state clash)
-  DrillAnswers (Undetermined state cell) = WroteStopped (Undetermined state cell)
-  DrillAnswers (StateLimit states) = WroteStopped (StateLimit states)
-  DrillAnswers (ReductionLimit state) = WroteStopped (ReductionLimit state)
-  DrillAnswers (NumberLimit state) = WroteStopped (NumberLimit state)
-  DrillAnswers (ListLimit state) = WroteStopped (ListLimit state)
-  DrillAnswers (CallLimit state) = WroteStopped (CallLimit state)
-  DrillAnswers (NestLimit state) = WroteStopped (NestLimit state)
-  DrillAnswers (InputMissing state port) = WroteStopped (InputMissing state port)
-  DrillAnswers (SourceRefused line column kind) =
-      WroteWhole (DrillRefused words size (SourceRefused line column kind))
   DrillAnswers WriteFault =
       (text : List ℕ) × ((status : Status) × DrillEnds words size before after status text)
       × ((kept : ℕ) × Wrote old new (take kept text))
   DrillAnswers NoMemory = new ≡ old
-  DrillAnswers (Finished length) = ⊥
-  DrillAnswers WordsRefused = ⊥
-  DrillAnswers (InputsRefused line) = ⊥
-  DrillAnswers (OtherRefused line) = ⊥
-  DrillAnswers (TraceTooLong states) = ⊥
-  DrillAnswers (TooLong which) = ⊥
-  DrillAnswers (ReadFault which) = ⊥
+  DrillAnswers status =
+      (text : List ℕ) × DrillEnds words size before after status text × Wrote old new text
 
--- The status comes to the end that some run has: it is done where this run finished, and else it is
--- as in the mode `run`.
+-- The status comes to the end that some run has, as in the mode `run`, but that it is done where
+-- this run finished.
 abbrev pub DrillComesTo : (globals : ℕ) → Turn → Status → Type 0
-DrillComesTo globals turn.Went status = ⊥
-DrillComesTo globals (turn.Finished n) status = status ≡ Done
-DrillComesTo globals (turn.Contradictory state clash) status =
-    ComesTo globals (turn.Contradictory state clash) status
-DrillComesTo globals (turn.Undetermined state cell) status =
-    ComesTo globals (turn.Undetermined state cell) status
-DrillComesTo globals (turn.StateLimit states) status =
-    ComesTo globals (turn.StateLimit states) status
-DrillComesTo globals (turn.InputMissing state port) status =
-    ComesTo globals (turn.InputMissing state port) status
-DrillComesTo globals (turn.Over state limit) status =
-    ComesTo globals (turn.Over state limit) status
+DrillComesTo globals end status =
+    ((length : ℕ) × ComesTo globals end (Finished length) × (status ≡ Done))
+    ⊎ (((length : ℕ) → status ≢ Finished length) × ComesTo globals end status)
 
 -- Of the words and of what was written before and after, with the count of tries.
 module _ (words : List (List ℕ)) (old new : Option (List ℕ)) (before after : ℕ)

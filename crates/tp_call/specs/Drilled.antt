@@ -5,15 +5,13 @@ use Rattle.tp_step.specs.declared.order.Order.{Order}
 use Rattle.tp_show.specs.declared.turn.Picture.{Picture}
 use Rattle.tp_show.specs.declared.turn.Turn.{Turn}
 use Rattle.tp_show.specs.declared.turn.Turn.TheVariants as turn
-use Rattle.tp_run.specs.States.{Plan, LeadsTo}
-use Rattle.tp_run.specs.History.{RunEndsWith, end_store}
+use Rattle.tp_run.specs.History.{Plan, LeadsTo, RunEndsWith, end_store}
 use Rattle.tp_run.specs.Standing.{RunPlace, open_at, state_after}
 use Rattle.tp_run.specs.Runs.{program_of, store_of}
 use Rattle.tp_call.specs.declared.drill.Totals.{Totals}
 use Rattle.tp_call.specs.declared.drill.Drilled.{Drilled}
-use Rattle.tp_call.specs.Run.{last_answer}
-use Rattle.tp_call.specs.Progress.{is_settled, ClosesRun}
-use Rattle.tp_call.specs.Work.{RunTried}
+use Rattle.tp_call.specs.Progress.{last_answer, is_settled, ClosesRun}
+use Rattle.tp_call.specs.InOrder.{RunTried}
 use Rattle.tp_call.specs.Worked.{StateTried, HasTried}
 use Rattle.tp_call.specs.Parts.{ClosesText}
 use Rattle.tp_call.specs.Drill.{reductions_in, drill_line}

@@ -1,21 +1,40 @@
--- The text of any run of what is asked for is the one that a call prints, and no choice of picks is
--- a dead end.
-use Rattle.std.specs.Prelude.{◌≡◌, ◌⊎◌, ℕ, List, ◌++◌, Option, Some}
+-- What the runs of a plan have in common with the one that a call makes, whatever is picked in which
+-- order: the end, and the text; and no choice of picks is a dead end.
+use Rattle.std.specs.Prelude.{◌≡◌, ◌⊎◌, ℕ, List, Option, Some, ◌++◌}
 use Rattle.tp_io.specs.Held.{Held}
-use Rattle.tp_store.specs.Known.{Variable}
 use Rattle.tp_show.specs.declared.turn.Picture.{Picture}
 use Rattle.tp_show.specs.declared.turn.Turn.{Turn}
-use Rattle.tp_show.specs.EndLine.{end_line}
-use Rattle.tp_run.specs.States.{Plan, globals_of}
-use Rattle.tp_run.specs.Same.{FailsNowhere}
-use Rattle.tp_run_laws.specs.Beginnings.{NoDeadEnd}
+use Rattle.tp_run.specs.History.{RunEndsWith, Plan, globals_of}
+use Rattle.tp_run.specs.Same.{SamePictures, SameEnd, FailsNowhere}
 use Rattle.tp_call.specs.declared.status.Status.{Status}
-use Rattle.tp_call.specs.Run.{status_of, RunEnds}
-use Rattle.tp_call.specs.Printed.{ended_text}
-use Rattle.tp_call.specs.Written.{Wrote}
-use Rattle.tp_call.specs.Answer.{IsAskedFor, run_text, HasFailed}
-use Rattle.tp_call.specs.EveryOrder.{ComesTo}
+use Rattle.tp_call.specs.Run.{status_of, RunEnds, ended_text}
+use Rattle.tp_call.specs.Answer.{IsAskedFor, Prints, HasFailed, run_text}
+use Rattle.tp_store.specs.Known.{Variable}
+use Rattle.tp_show.specs.Texts.{end_line}
+use Rattle.tp_run_laws.specs.Beginnings.{NoDeadEnd}
+use Rattle.tp_call.specs.Files.{Wrote}
 use Rattle.tp_words.specs.declared.beside.Beside.{Beside}
+
+-- The status comes to the end that some run has: it is that of a run which ends the same. So a cell
+-- is the same up to the numbers of regions and locals, and where a state fails it is free which of
+-- its failures is named.
+abbrev pub ComesTo : (globals : ℕ) → Turn → Status → Type 0
+ComesTo globals end status =
+    (answer : Turn) × SameEnd globals end answer × (status_of answer ≡ Some status)
+
+module _ (words : List (List ℕ)) (held : Option Held) (old new : Option (List ℕ))
+    (result : Status) where
+  -- Whatever run there is of what is asked for, with any picks in any order: the call comes to its
+  -- end and prints its states, the same facts, shows and reductions, unless a read or a write fails
+  -- or memory is wanted.
+  abbrev pub ComesToEachEnd : Type 0
+  ComesToEachEnd =
+      (files : Held) → held ≡ Some files → (plan : Plan) → IsAskedFor words held plan
+      → (pictures : List Picture) (end : Turn)
+      → RunEndsWith plan pictures end
+      → (ComesTo (globals_of plan) end result
+      × Prints words held old new result (λ run printed. SamePictures pictures printed))
+      ⊎ HasFailed result
 
 -- What was appended is the text of the states of this run and the end line of an answer with this
 -- status; and where the run doesn't fail, it is the whole text of this run.

@@ -1,10 +1,15 @@
--- The files that a call reads.
-use Rattle.std.specs.Prelude.{◌≡◌, ◌⊎◌, ℕ, List, [], ◌∷◌, Option, None, Some}
+-- The files that a call reads, and what it appends to a sink.
+use Rattle.std.specs.Prelude.{◌≡◌, ℕ, List, ◌++◌, Option, ◌⊎◌, [], ◌∷◌, None, Some}
+use Rattle.std.specs.Option.{option_map}
 use Rattle.tp_words.specs.declared.mode.Mode.{Mode}
 use Rattle.tp_words.specs.declared.mode.Mode.TheVariants.{Run, Print, Convert, Check, Drill}
 use Rattle.tp_words.specs.Words.{Wanted, wanted_of}
 use Rattle.tp_call.specs.declared.status.Which.{Which}
 use Rattle.tp_call.specs.declared.status.Which.TheVariants.{Source, Inputs, Other}
+
+-- the bytes were appended, where the bytes are told
+abbrev pub Wrote : Option (List ℕ) → Option (List ℕ) → List ℕ → Type 0
+Wrote old new bytes = new ≡ option_map (λ before. before ++ bytes) old
 
 -- a file that is read, and the name that the words give it
 pub record NamedFile : Type 0 where

@@ -4,7 +4,7 @@ use Rattle.std.specs.Prelude.{◌≡◌, ◌⊎◌, ◌≤◌, ℕ, List, length
 use Rattle.tp_io.specs.Held.{Held}
 use Rattle.tp_scene.specs.declared.answer.Cell.{Cell}
 use Rattle.tp_scene.specs.declared.answer.Clash.{Clash}
-use Rattle.tp_run.specs.History.{SatisfiedExactly, Satisfiable, Unsatisfiable, ContinuesEach}
+use Rattle.tp_run.specs.History.{SatisfiedExactly, Satisfiable, Unsatisfiable, ContinuesEach, Plan}
 use Rattle.tp_call.specs.declared.status.Refused.{Refused}
 use Rattle.tp_call.specs.declared.status.Status.{Status}
 use Rattle.tp_call.specs.declared.status.Status.TheVariants.{Finished, Done, Contradictory, Undetermined, StateLimit, InputMissing, SourceRefused, InputsRefused, WordsRefused, TooLong, OtherRefused, TraceTooLong}
@@ -17,11 +17,10 @@ use Rattle.tp_show.specs.declared.named_fact.NamedFact.{NamedFact}
 use Rattle.tp_monitor.specs.WideOf.{NamedWide}
 use Rattle.tp_monitor.specs.Told.{state_limit}
 use Rattle.tp_words.specs.Words.{wanted_of}
-use Rattle.tp_run.specs.States.{Plan}
-use Rattle.tp_show.specs.Told.{FitsIn64Bits}
-use Rattle.tp_call.specs.Judged.{WritesVerdict}
+use Rattle.tp_call.specs.Answer.{WritesVerdict, WhereTold, AsTold, HoldsRefused, IsPastLimit, HasBadLine, HasBadTraceLine, HasManyStates, IsAskedFor, IsAskedToCheck, IsToPrint, IsToConvert, ReadsFile, Prints, Spells, Converts, IsOrStopped, IsOrFailed, HasFailed, refused_status}
+use Rattle.tp_call.specs.Run.{IsEndOfRun, IsOpenEnd}
+use Rattle.tp_call.specs.Files.{Wrote}
 use Rattle.tp_call.specs.Text.{AsksNothingBeside, TextTells, ContinuesTold, FinishesAsTold}
-use Rattle.tp_call.specs.Answer.{WhereTold, AsTold, HoldsRefused, IsPastLimit, HasBadLine, HasBadTraceLine, HasManyStates, IsAskedFor, IsAskedToCheck, IsToPrint, IsToConvert, ReadsFile, Prints, WritesSpelling, WritesTable, IsOrStopped, IsOrFailed, IsEndOfRun, IsOpenEnd, HasFailed, refused_status}
 
 module _ (words : List (List ℕ)) (held : Option Held) (old new : Option (List ℕ))
     (result : Status) where
@@ -83,7 +82,9 @@ module _ (words : List (List ℕ)) (held : Option Held) (old new : Option (List 
   -- they ask to check a trace by a wider formula, and what was appended is the line of the verdict.
   abbrev pub DoneSays : Type 0
   DoneSays =
-      result ≡ Done → WritesSpelling words held old new ⊎ WritesTable words held old new
+      result ≡ Done
+      → ((text : List ℕ) × (Spells words held Done text ⊎ Converts words held Done text)
+      × Wrote old new text)
       ⊎ WritesVerdict words held old new
 
 -- Of the words, of what the files hold, and of the status.

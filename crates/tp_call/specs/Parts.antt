@@ -15,7 +15,7 @@ use Rattle.tp_call.specs.declared.status.Status.{Status}
 use Rattle.tp_call.specs.declared.status.Status.TheVariants.{InputsRefused, OtherRefused, TraceTooLong, WordsRefused, TooLong, ReadFault, WriteFault, NoMemory}
 use Rattle.tp_call.specs.declared.status.Which.TheVariants.{Source, Inputs, Other}
 use Rattle.tp_call.specs.declared.status.Refused.{Refused}
-use Rattle.tp_call.specs.Written.{Wrote}
+use Rattle.tp_call.specs.Files.{Wrote}
 use Rattle.tp_call.specs.Answer.{Refuses, WhereTold, HoldsRefused, HasBadLine, HoldsTrace, HasBadTraceLine, HasManyStates, IsPastLimit, refused_status}
 use Rattle.tp_call.specs.Source.{IsRefusedAt}
 

@@ -1,6 +1,6 @@
 -- Where a run stands.
 use Rattle.std.specs.Prelude.{IfSome}
-use Rattle.tp_residual.specs.Residual.{AreCarried}
+use Rattle.tp_residual.specs.Carried.{AreCarried}
 use Rattle.tp_run.specs.declared.run.Run.{Run}
 use Rattle.tp_run.specs.Standing.{Standing, open_at, answered, spent}
 use Rattle.tp_run.specs.Runs.{StandIsKept, standing_of, next_state_of, carried_scene}

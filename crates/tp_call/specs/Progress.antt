@@ -1,5 +1,5 @@
 -- What a run has written, state by state.
-use Rattle.std.specs.Prelude.{◌≡◌, ◌⊎◌, ℕ, Bool, true, false, IsTrue, if◌then◌else◌, List, [], length, take, All, Option, Some, Result, Ok, Err, IfOk}
+use Rattle.std.specs.Prelude.{◌≡◌, ◌⊎◌, ℕ, Bool, true, false, IsTrue, if◌then◌else◌, List, [], length, take, All, Option, Some, Result, Ok, Err, IfOk, None}
 use Rattle.tp_io.specs.declared.refusal.WriteRefusal.{WriteRefusal}
 use Rattle.tp_io.specs.declared.refusal.WriteRefusal.TheVariants as sink
 use Rattle.tp_meaning.specs.Interval.{ProgramTree}
@@ -7,18 +7,38 @@ use Rattle.tp_scene.specs.Pick.{Moment}
 use Rattle.tp_show.specs.declared.turn.Picture.{Picture}
 use Rattle.tp_show.specs.declared.turn.Turn.{Turn}
 use Rattle.tp_show.specs.declared.turn.Turn.TheVariants as turn
-use Rattle.tp_run.specs.States.{Plan, LeadsTo}
+use Rattle.tp_run.specs.History.{Plan, LeadsTo}
 use Rattle.tp_run.specs.Standing.{RunPlace, open_at, AnswersState}
-use Rattle.tp_run.specs.Runs.{program_of, store_of}
+use Rattle.tp_run.specs.Runs.{program_of, store_of, carried_scene}
 use Rattle.tp_call.specs.declared.run.Ended.{Ended}
 use Rattle.tp_show.specs.Told.{IsPictureInRange}
-use Rattle.tp_call.specs.Printed.{written_state, lead_text, next_moment}
-use Rattle.tp_call.specs.Written.{Wrote}
-use Rattle.tp_show.specs.EndLine.{end_line}
+use Rattle.tp_call.specs.Run.{written_state, lead_text, status_of}
+use Rattle.tp_call.specs.Files.{Wrote}
+use Rattle.tp_show.specs.Texts.{end_line}
 use Rattle.tp_call.specs.declared.status.Status.{Status}
 use Rattle.tp_call.specs.Parts.{ClosesText}
-use Rattle.tp_call.specs.Run.{last_answer, status_of}
 use Rattle.tp_words.specs.declared.beside.Beside.{Beside}
+use Rattle.tp_call.specs.declared.status.Status.TheVariants.{Finished, Contradictory, Undetermined, StateLimit, InputMissing}
+use Rattle.tp_store.specs.Known.{Contents}
+use Rattle.tp_scene.specs.Scene.{Scene}
+
+-- what the state after the last one begins with, where the run stands there
+abbrev pub moment_with : Contents → Option Scene → Option Moment
+moment_with store None = None
+moment_with store (Some scene) = Some (record { scene = scene; store = store })
+
+abbrev pub next_moment : RunPlace → Option Moment
+next_moment place = moment_with place.store (carried_scene place.state place.standing)
+
+-- the answer with which a run ends; it goes on with `Went`
+abbrev pub last_answer : Turn → Option Turn
+last_answer turn.Went = None
+last_answer (turn.Finished length) = Some (turn.Finished length)
+last_answer (turn.Contradictory state clash) = Some (turn.Contradictory state clash)
+last_answer (turn.Undetermined state cell) = Some (turn.Undetermined state cell)
+last_answer (turn.StateLimit states) = Some (turn.StateLimit states)
+last_answer (turn.InputMissing state port) = Some (turn.InputMissing state port)
+last_answer (turn.Over state kind) = Some (turn.Over state kind)
 
 -- a call of the run of this plan answers this: it goes from here to there, with this picture
 pub record Turned (plan : Plan) (from to : RunPlace) (answer : Turn)

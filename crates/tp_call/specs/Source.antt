@@ -1,15 +1,17 @@
 -- Which source of the grammar, which program and which wider formula a text is, or where and why it
 -- is refused.
-use Rattle.std.specs.Prelude.{◌≡◌, ◌⊎◌, ℕ, List, length, Option, None, Some, slice_get, Ok, Err}
+use Rattle.std.specs.Prelude.{◌≡◌, ℕ, List, ◌⊎◌, length, Option, None, Some, slice_get, Ok, Err}
 use Rattle.tp_lex.specs.declared.token.Token.{Token}
+use Rattle.tp_lex.specs.Tokens.{AreTokens, IsRefused}
+use Rattle.tp_tree.specs.Tree.{SourceTree}
+use Rattle.tp_tree.specs.Spelling.{source_spelling}
+use Rattle.tp_tree.specs.Places.{IsSameUpToPlaces}
+use Rattle.tp_parse.specs.Grammar.{IsSource, Accepts}
 use Rattle.tp_lex.specs.declared.refusal.LexRefusal.{LexRefusal}
 use Rattle.tp_lex.specs.declared.refusal.LexRefusal.TheVariants as lex
-use Rattle.tp_lex.specs.Tokens.{AreTokens, IsRefused}
 use Rattle.tp_lex.specs.Place.{place_of}
-use Rattle.tp_tree.specs.Tree.{SourceTree}
 use Rattle.tp_parse.specs.declared.refusal.ParseRefusal.{ParseRefusal}
 use Rattle.tp_parse.specs.declared.refusal.ParseRefusal.TheVariants as parse
-use Rattle.tp_parse.specs.Grammar.{Accepts}
 use Rattle.tp_parse.specs.Place.{BlamesFirst, BlamesFirstInText}
 use Rattle.tp_meaning.specs.Interval.{ProgramTree}
 use Rattle.tp_check.specs.Program.{ChecksTo}
@@ -21,6 +23,17 @@ use Rattle.tp_words.specs.declared.mode.Mode.TheVariants.{Run, Print, Convert, C
 use Rattle.tp_call.specs.declared.status.SourceKind.{SourceKind}
 use Rattle.tp_call.specs.declared.status.SourceKind.TheVariants.{BadByte, OpenComment, NumberTooLarge, NameTooLong, Unexpected, Unfinished, TooDeep, DefinedTwice, UnknownName, WrongCount, NotExpression, NotPlace, NotPort, NotExecutable}
 use Rattle.tp_call.specs.declared.status.Refused.{Refused}
+
+-- The tree's canonical spelling has tokens, and these are a source of the grammar that is this tree
+-- up to places, and no other. It is as high as its parentheses make it.
+pub record IsReadFromSpelling (tree : SourceTree) : Type 0 where
+  pub tokens : List Token
+  pub are_tokens : AreTokens (source_spelling tree) tokens
+  pub again : SourceTree
+  pub height : ℕ
+  pub is_source : IsSource tokens again height
+  pub same : IsSameUpToPlaces again tree
+  pub only : (other : SourceTree) → Accepts tokens other → other ≡ again
 
 -- this text is a source of the grammar, and has this tree
 pub record IsSourceText (source : List ℕ) (tree : SourceTree) : Type 0 where

@@ -4,7 +4,7 @@ use Rattle.std.specs.Prelude.{◌≡◌, ◌⊎◌, ℕ, List, Some}
 use Rattle.tp_store.specs.Known.{Variable}
 use Rattle.tp_show.specs.declared.turn.Turn.{Turn}
 use Rattle.tp_show.specs.Told.{AreNames, FitsIn64Bits}
-use Rattle.tp_show.specs.EndLine.{end_line}
+use Rattle.tp_show.specs.Texts.{end_line}
 use Rattle.tp_show.specs.EndsTold.{AreStoreVariables, IsTurnOf, EndsToldAlike}
 use Rattle.tp_call.specs.declared.status.Status.{Status}
 use Rattle.tp_call.specs.declared.status.Status.TheVariants.{Finished, Done, Contradictory, Undetermined, StateLimit, ReductionLimit, NumberLimit, ListLimit, CallLimit, NestLimit, InputMissing, SourceRefused, InputsRefused, WordsRefused, TooLong, ReadFault, WriteFault, NoMemory, OtherRefused, TraceTooLong}

@@ -9,7 +9,7 @@ use Rattle.tp_inputs.specs.Table.{IsInputsText}
 use Rattle.tp_inputs.specs.Converted.{converted}
 use Rattle.tp_step.specs.declared.order.Order.{Order}
 use Rattle.tp_show.specs.Told.{AreNames}
-use Rattle.tp_run.specs.States.{Plan, plan_with}
+use Rattle.tp_run.specs.History.{Plan, plan_with}
 use Rattle.tp_verdict.specs.Code.{verdict_of}
 use Rattle.tp_words.specs.declared.command.Command.{Command}
 use Rattle.tp_words.specs.Command.{wanted_by}
@@ -19,7 +19,7 @@ use Rattle.tp_call.specs.declared.job.Job.{Job}
 use Rattle.tp_call.specs.declared.job.Job.TheVariants as job
 use Rattle.tp_call.specs.declared.drill.Drill.{Drill}
 use Rattle.tp_call.specs.Drill.{AsksForDrill}
-use Rattle.tp_call.specs.Spelling.{IsReadFromSpelling}
+use Rattle.tp_call.specs.Source.{IsReadFromSpelling}
 use Rattle.tp_call.specs.Answer.{IsAskedFor, IsAskedToPrint, IsAskedToConvert, IsJudged}
 use Rattle.tp_words.specs.declared.beside.Beside.{Beside}
 

@@ -1,25 +1,23 @@
 -- What a run that goes on, or ended, has tried and written.
-use Rattle.std.specs.Prelude.{◌≡◌, ◌⊎◌, ℕ, ◌+◌, ◌≤◌, IsTrue, List, Option}
+use Rattle.std.specs.Prelude.{◌≡◌, ◌⊎◌, ℕ, ◌+◌, ◌≤◌, IsTrue, List, Option, IfSome}
 use Rattle.tp_store.specs.Known.{Contents}
 use Rattle.tp_scene.specs.Pick.{Moment}
-use Rattle.tp_step.specs.declared.answer.Tally.{Tally}
+use Rattle.tp_step.specs.declared.tally.Tally.{Tally}
 use Rattle.tp_step.specs.declared.order.Order.{Order}
 use Rattle.tp_show.specs.declared.turn.Picture.{Picture}
 use Rattle.tp_show.specs.declared.turn.Turn.{Turn}
 use Rattle.tp_show.specs.Told.{IsPictureInRange}
-use Rattle.tp_run.specs.States.{Plan, LeadsTo}
-use Rattle.tp_run.specs.PicksOfRun.{beginning_of}
-use Rattle.tp_run.specs.History.{RunEndsWith, end_store}
+use Rattle.tp_run.specs.History.{Plan, LeadsTo, setting, beginning_of, RunEndsWith, end_store}
 use Rattle.tp_run.specs.Runs.{program_of, store_of}
-use Rattle.tp_run.specs.Standing.{RunPlace, Standing, StateBecomes, state_after}
+use Rattle.tp_run.specs.Standing.{RunPlace, Standing, StateBecomes, state_after, open_at}
 use Rattle.tp_run.specs.StateTries.{IsTallyOf, CountsStateTries}
 use Rattle.tp_call.specs.declared.run.Ended.{Ended}
-use Rattle.tp_call.specs.Run.{last_answer}
-use Rattle.tp_call.specs.Printed.{ended_text, next_moment}
-use Rattle.tp_call.specs.Progress.{is_settled, printed_lines, HasWritten}
-use Rattle.tp_call.specs.Written.{Wrote}
+use Rattle.tp_call.specs.Progress.{last_answer, next_moment, is_settled, printed_lines, HasWritten}
+use Rattle.tp_call.specs.Run.{ended_text}
+use Rattle.tp_call.specs.Files.{Wrote}
 use Rattle.tp_words.specs.declared.beside.Beside.{Beside}
-use Rattle.tp_call.specs.Work.{AreTalliesOf, RunTried, all_tries}
+use Rattle.tp_call.specs.InOrder.{AreTalliesOf, RunTried, all_tries}
+use Rattle.tp_run.specs.Ordered.{IsNamedInOrder}
 
 -- The states with which a run begins were closed thriftily in this order, with these picks; and a
 -- count of tries rose by those that were recorded.
@@ -69,3 +67,10 @@ pub record WorkEnded (plan : Plan) (beside : Beside) (order : Order)
   pub store_is : store_of ended.run ≡ end_store plan pictures ended.turn run
   pub wrote : Wrote before after (ended_text beside plan pictures ended.turn run)
   pub tried : RunTried plan order pictures ended.turn run old new
+
+-- where a run stands before a state, and this state's answer is its last one, it is named in this
+-- order
+abbrev pub LastInOrder : Plan → Order → (from : RunPlace) → (last : Option Turn) → Type 0
+LastInOrder plan order from last =
+    (m : Moment) → from.standing ≡ open_at m
+    → IfSome last (IsNamedInOrder (setting plan from.state) order plan.reductions m)

@@ -10,14 +10,14 @@ ghost use Rattle.tp_inputs.specs.Read.{inputs_of};
 ghost use Rattle.tp_inputs.specs.Converted.{converted};
 ghost use Rattle.tp_inputs.specs.Table.{IsInputsText};
 ghost use Rattle.tp_call.specs.Asked.{AsksOnly};
-ghost use Rattle.tp_call.specs.Answer.{inputs_limit, WhereTold, HoldsProgram, HasInputs, IsAskedFor, IsEndOfRun, Answers};
+ghost use Rattle.tp_call.specs.Answer.{inputs_limit, WhereTold, HoldsProgram, HasInputs, IsAskedFor, Answers};
+ghost use Rattle.tp_call.specs.Run.{IsEndOfRun};
 ghost use Rattle.tp_call.specs.Reading.{AsksFile, AsksTable};
 ghost use Rattle.tp_call.specs.Task.{plan_of, AsksFor, WritesBesideAsAsked, OrdersAsAsked, IsTaskFor, IsJobFor};
 ghost use Rattle.tp_words.specs.declared.mode.Mode.TheVariants.{Run};
 ghost use Rattle.tp_call.specs.Parts.{IsReadRefusal, IsSourceRefusal, IsTableRefusal, IsInputsEnd, IsProgramRefusal};
 ghost use Rattle.tp_call.specs.Drill.{AsksNoDrill, DrillSays};
-ghost use Rattle.tp_call.specs.InOrder.{StatusInOrder, FailsInOrder};
-ghost use Rattle.tp_call.specs.Work.{WorksThriftily};
+ghost use Rattle.tp_call.specs.InOrder.{StatusInOrder, FailsInOrder, WorksThriftily};
 ghost use Rattle.tp_call.specs.Progress.{line_of_end, ClosesAnswer, ClosesRun};
 ghost use Rattle.tp_show.specs.Told.{AreNames, IsLastTurn};
 

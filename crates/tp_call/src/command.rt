@@ -1,7 +1,7 @@
 // What the words ask for.
 ghost use Rattle.std.specs.Prelude.{◌≡◌, true, Some, IfOk, IfErr, option_map, string_bytes};
 ghost use Rattle.tp_words.specs.Command.{wanted_by};
-ghost use Rattle.tp_words.specs.Mode.{has_other};
+ghost use Rattle.tp_words.specs.Options.{has_other};
 ghost use Rattle.tp_words.specs.Subject.{HasSize};
 ghost use Rattle.tp_words.specs.Words.{wanted_of};
 ghost use Rattle.tp_call.specs.Parts.{IsWordsRefusal};

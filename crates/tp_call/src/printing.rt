@@ -9,8 +9,7 @@ ghost use Rattle.tp_call.specs.declared.status.Which.{Which};
 ghost use Rattle.tp_call.specs.Answer.{WhereTold, HoldsSource};
 ghost use Rattle.tp_call.specs.Parts.{IsReadRefusal, IsSourceRefusal, ClosesText};
 ghost use Rattle.tp_call.specs.Reading.{AsksFile};
-ghost use Rattle.tp_call.specs.Source.{IsSourceText};
-ghost use Rattle.tp_call.specs.Spelling.{IsReadFromSpelling};
+ghost use Rattle.tp_call.specs.Source.{IsSourceText, IsReadFromSpelling};
 
 use crate::close::close;
 use crate::refused::{by_lexer, by_parser, refusal_status};

@@ -3,8 +3,7 @@ use Rattle.std.proofs.Common.{refl, ap, ap₂, sym, ◌∙◌, ◌≡◌, ◌↔
 use Rattle.tp_tree.specs.Tree.{DefinitionTree, SourceTree}
 use Rattle.tp_meaning.specs.Interval.{ProgramTree}
 use Rattle.tp_check.specs.declared.refusal.CheckRefusal.TheVariants.{Twice}
-use Rattle.tp_scope.specs.Names.{twice_defined, names_of}
-use Rattle.tp_scope.specs.Definitions.{IsStateDefinition, AreStates}
+use Rattle.tp_scope.specs.Names.{twice_defined, names_of, IsStateDefinition, AreStates}
 use Rattle.tp_check.specs.Outcome.{CheckOutcome}
 use Rattle.tp_check.specs.Program.{program_over, ChecksTo}
 use Rattle.tp_check.specs.Laws.{CheckedOnce}

@@ -5,8 +5,7 @@ use Rattle.tp_meaning.specs.Interval.{ProgramTree}
 use Rattle.tp_check.specs.declared.refusal.CheckRefusal.{CheckRefusal}
 use Rattle.tp_check.specs.declared.refusal.CheckRefusal.TheVariants.{Twice}
 use Rattle.tp_scope.specs.Scope.{Names, Signature, VisibleNames, bound_in, with_binders}
-use Rattle.tp_scope.specs.Names.{twice_defined, names_in, names_in_bodies, names_of}
-use Rattle.tp_scope.specs.Definitions.{signatures_of, AreStates}
+use Rattle.tp_scope.specs.Names.{twice_defined, names_in, names_in_bodies, names_of, signatures_of, AreStates}
 use Rattle.tp_check.specs.Outcome.{CheckOutcome, mapped, both}
 use Rattle.tp_check.specs.Positions.{expr_of, formula_of}
 use Rattle.tp_check.specs.Program.{definition_with, definition_in, definitions_in, outermost, program_over, ChecksTo}

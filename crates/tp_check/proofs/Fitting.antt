@@ -24,11 +24,10 @@ use Rattle.tp_meaning.specs.Derived.{next_equals_of, repeat_of}
 use Rattle.tp_check.specs.declared.refusal.CheckRefusal.{CheckRefusal}
 use Rattle.tp_check.specs.declared.refusal.CheckRefusal.TheVariants.{Twice}
 use Rattle.tp_scope.specs.Scope.{Names, Signature, VisibleNames, Called, with_binder, with_binders, bound_in, binder_of, bound_or_global, called_from, called_of}
-use Rattle.tp_scope.specs.Names.{has_repeat}
+use Rattle.tp_scope.specs.Names.{has_repeat, signatures_of}
 use Rattle.tp_check.specs.Outcome.{CheckOutcome, mapped, both, three, not_expression}
 use Rattle.tp_scope.specs.Phrases.{is_place_phrase, is_place_kind, phrase_count, nexts_of, behind_nexts, at_of}
-use Rattle.tp_scope.specs.Definitions.{signatures_of}
-use Rattle.tp_check.specs.Positions.{named_expr, operation_of, operation_at, called_expr, expr_of, expr_of_kind, exprs_in, place_phrase, port_phrase, arguments_in, equation_of, is_state_in, state_in, negation_in, binary_in, composition_of, composed_or, bare_of, called_formula, exists_of, formula_of, formula_of_kind, formulas_in}
+use Rattle.tp_check.specs.Positions.{named_expr, operation_of, operation_at, called_expr, expr_of, expr_of_kind, exprs_in, place_phrase, port_phrase, arguments_in, equation_of, is_state_in, state_in, negation_in, binary_in, bare_of, called_formula, exists_of, formula_of, formula_of_kind, formulas_in}
 use Rattle.tp_check.specs.Program.{expr_where, definition_with, definition_in, definitions_in, outermost, program_over}
 
 any_ok : {A : Type 0} (a : CheckOutcome A) → IfOk a (λ x. Unit {0})
@@ -297,20 +296,6 @@ module _ (defs : List Definition) where
   binary_fits names known at op.Or l r = if_ok (is_state_in names l && is_state_in names r) _ _ (FormulaFitsIn names) (λ is. state_fits names known at (k.binary op.Or l r)) tt
   binary_fits names known at o l r = state_fits names known at (k.binary o l r)
 
-  -- a formula of two fits where both do
-  abbrev Composes : VisibleNames → (FormulaTree → FormulaTree → FormulaTree) → Type 0
-  Composes names make = (w v : FormulaTree) → FormulaFitsIn names w → FormulaFitsIn names v → FormulaFitsIn names (make w v)
-
-  composed_fits : (names : VisibleNames) (make : Option (FormulaTree → FormulaTree → FormulaTree)) (w v other : CheckOutcome FormulaTree)
-      → IfSome make (Composes names) → IfOk w (FormulaFitsIn names) → IfOk v (FormulaFitsIn names) → IfOk other (FormulaFitsIn names) → IfOk (composed_or make w v other) (FormulaFitsIn names)
-  composed_fits names (Some make) w v other composes p q r = both_ok make w v (FormulaFitsIn names) (FormulaFitsIn names) (FormulaFitsIn names) p q composes
-  composed_fits names None w v other composes p q r = r
-
-  compositions_fit : (names : VisibleNames) (o : Op) → IfSome (composition_of o) (Composes names)
-  compositions_fit names op.Chop = λ w v a b. (a, b)
-  compositions_fit names op.Proj = λ w v a b. (a, b)
-  compositions_fit names o = tt
-
   bare_fits : (names : VisibleNames) (word : Bare) → FormulaFitsIn names (bare_of word)
   bare_fits names Empty = tt
   bare_fits names More = tt
@@ -338,8 +323,11 @@ module _ (defs : List Definition) where
     formula_kind_fits names known at (k.conjunction ps) = mapped_ok _ (formulas_in names ps) (FormulasFitIn names) (FormulaFitsIn names) (formulas_fit names known ps) (λ ws h. h)
     formula_kind_fits names known at (k.truth true) = tt
     formula_kind_fits names known at (k.negation p) = negation_fits names known at p
-    formula_kind_fits names known at (k.binary o l r) =
-        composed_fits names (composition_of o) (formula_of names l) (formula_of names r) (binary_in names at o l r) (compositions_fit names o) (formula_fits names known l) (formula_fits names known r) (binary_fits names known at o l r)
+    formula_kind_fits names known at (k.binary op.Chop l r) =
+        both_ok _ (formula_of names l) (formula_of names r) (FormulaFitsIn names) (FormulaFitsIn names) (FormulaFitsIn names) (formula_fits names known l) (formula_fits names known r) (λ w v a b. (a, b))
+    formula_kind_fits names known at (k.binary op.Proj l r) =
+        both_ok _ (formula_of names l) (formula_of names r) (FormulaFitsIn names) (FormulaFitsIn names) (FormulaFitsIn names) (formula_fits names known l) (formula_fits names known r) (λ w v a b. (a, b))
+    formula_kind_fits names known at (k.binary o l r) = binary_fits names known at o l r
     formula_kind_fits names known at (k.bare word) = bare_fits names word
     formula_kind_fits names known at (k.next w) = mapped_ok _ (formula_of names w) (FormulaFitsIn names) (FormulaFitsIn names) (formula_fits names known w) (λ x h. h)
     formula_kind_fits names known at (k.form f.Always (phrase_then w no_phrase)) = mapped_ok _ (formula_of names w) (FormulaFitsIn names) (FormulaFitsIn names) (formula_fits names known w) (λ x h. h)

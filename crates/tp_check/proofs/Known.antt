@@ -20,11 +20,10 @@ use Rattle.tp_meaning.specs.Value.{is_upper}
 use Rattle.tp_check.specs.declared.refusal.CheckRefusal.{CheckRefusal}
 use Rattle.tp_check.specs.declared.refusal.CheckRefusal.TheVariants.{Twice, NotPlace, WrongCount}
 use Rattle.tp_scope.specs.Scope.{Names, Signature, VisibleNames, Called, with_binder, with_binders, bound_in, binder_of, bound_or_global, called_of}
-use Rattle.tp_scope.specs.Names.{has_repeat, names_with, unless_bound, names_in, names_in_kind, names_in_all, names_in_bodies, names_of}
+use Rattle.tp_scope.specs.Names.{has_repeat, names_with, unless_bound, names_in, names_in_kind, names_in_all, names_in_bodies, names_of, signatures_of}
 use Rattle.tp_check.specs.Outcome.{CheckOutcome, mapped, both, three, not_run, not_expression}
 use Rattle.tp_scope.specs.Phrases.{is_place_phrase, is_place_kind, phrase_count, nexts_of, behind_nexts, behind_nexts_of, at_of}
-use Rattle.tp_scope.specs.Definitions.{signatures_of}
-use Rattle.tp_check.specs.Positions.{named_expr, operation_of, operation_at, refusal_of, called_expr, expr_of, expr_of_kind, exprs_in, place_phrase, port_phrase, arguments_in, equation_of, place_is, is_state_in, state_in, negation_in, binary_in, composition_of, composed_or, called_formula, exists_of, formula_of, formula_of_kind, formulas_in}
+use Rattle.tp_check.specs.Positions.{named_expr, operation_of, operation_at, refusal_of, called_expr, expr_of, expr_of_kind, exprs_in, place_phrase, port_phrase, arguments_in, equation_of, place_is, is_state_in, state_in, negation_in, binary_in, called_formula, exists_of, formula_of, formula_of_kind, formulas_in}
 use Rattle.tp_check.specs.Program.{expr_where, definition_with, definition_in, definitions_in, outermost}
 use Rattle.tp_check.specs.NameLaws.{NamesSuffice}
 
@@ -194,11 +193,12 @@ mutual
   formula_kind_same names more at (k.conjunction ps) known = ap (mapped (λ ws. conjunction (formulas_of ws))) (formulas_same names more ps known)
   formula_kind_same names more at (k.truth true) known = refl
   formula_kind_same names more at (k.negation p) known = negation_same names more at p known
+  formula_kind_same names more at (k.binary op.Chop l r) known =
+      ap₂ (both m.chop) (formula_same names more l (front names.globals (names_in names.scope l) (names_in names.scope r) known)) (formula_same names more r (back names.globals (names_in names.scope l) (names_in names.scope r) known))
+  formula_kind_same names more at (k.binary op.Proj l r) known =
+      ap₂ (both m.project) (formula_same names more l (front names.globals (names_in names.scope l) (names_in names.scope r) known)) (formula_same names more r (back names.globals (names_in names.scope l) (names_in names.scope r) known))
   formula_kind_same names more at (k.binary o l r) known =
-      let first = front names.globals (names_in names.scope l) (names_in names.scope r) known in
-      let second = back names.globals (names_in names.scope l) (names_in names.scope r) known in
-      ap₂ (λ w v. composed_or (composition_of o) w v (binary_in (with_more names more) at o l r)) (formula_same names more l first) (formula_same names more r second)
-      ∙ ap (composed_or (composition_of o) (formula_of names l) (formula_of names r)) (binary_same names more at o l r first second known)
+      binary_same names more at o l r (front names.globals (names_in names.scope l) (names_in names.scope r) known) (back names.globals (names_in names.scope l) (names_in names.scope r) known) known
   formula_kind_same names more at (k.bare word) known = refl
   formula_kind_same names more at (k.next w) known = ap (mapped next) (formula_same names more w known)
   formula_kind_same names more at (k.form f.Always (phrase_then w no_phrase)) known = ap (mapped always) (formula_same names more w (front names.globals (names_in names.scope w) [] known))

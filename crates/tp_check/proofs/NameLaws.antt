@@ -16,8 +16,7 @@ use Rattle.tp_tree.specs.Names.{phrase_names, kind_names, operand_names, definit
 use Rattle.tp_meaning.specs.Syntax.{FormulaTree, Definition}
 use Rattle.tp_meaning.specs.Interval.{ProgramTree}
 use Rattle.tp_scope.specs.Scope.{Names, bound_in, binder_of}
-use Rattle.tp_scope.specs.Names.{has_repeat, AreApart, twice_defined, names_with, unless_bound, names_in, names_in_kind, names_in_all, names_in_first, names_in_bodies, names_of}
-use Rattle.tp_scope.specs.Definitions.{signatures_of, AreStates}
+use Rattle.tp_scope.specs.Names.{has_repeat, AreApart, twice_defined, names_with, unless_bound, names_in, names_in_kind, names_in_all, names_in_first, names_in_bodies, names_of, signatures_of, AreStates}
 use Rattle.tp_check.specs.Outcome.{CheckOutcome, both}
 use Rattle.tp_check.specs.Positions.{formula_of}
 use Rattle.tp_check.specs.Program.{definitions_in, outermost, program_over, ChecksTo}

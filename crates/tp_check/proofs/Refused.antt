@@ -15,10 +15,9 @@ use Rattle.tp_meaning.specs.Derived.{next_equals_of, halt_of, keep_of, fin_of, g
 use Rattle.tp_check.specs.declared.refusal.CheckRefusal.{CheckRefusal}
 use Rattle.tp_check.specs.declared.refusal.CheckRefusal.TheVariants.{Twice, Unknown, WrongCount, NotExpression, NotPlace, NotPort, NotExecutable}
 use Rattle.tp_scope.specs.Scope.{Names, Signature, VisibleNames, Called, with_binder, with_binders, bound_in, binder_of, bound_or_global, called_of}
-use Rattle.tp_scope.specs.Names.{has_repeat, unless_bound, names_in, names_in_kind, names_in_all}
+use Rattle.tp_scope.specs.Names.{has_repeat, unless_bound, names_in, names_in_kind, names_in_all, is_state_called}
 use Rattle.tp_check.specs.Outcome.{CheckOutcome, mapped, both, not_run, not_expression}
 use Rattle.tp_scope.specs.Phrases.{is_place_phrase, is_place_kind, is_port_kind, takes, phrase_count, nexts_of, behind_nexts, at_of}
-use Rattle.tp_scope.specs.Definitions.{is_state_called}
 use Rattle.tp_check.specs.Positions.{named_expr, operation_of, operation_at, call_refusal, refusal_of, called_expr, expr_of, expr_of_kind, exprs_in, place_phrase, port_phrase, arguments_in, equation_of, is_state_in, place_is, state_in, called_formula, exists_of, formula_of, formula_of_kind, formulas_in}
 use Rattle.tp_check.specs.Refusals.{Position, formula, expression, place, port, Placed, as_formula, as_expression, as_place, as_port, as_formulas, as_expressions, as_arguments, arguments_of, right_side, operands_of_expression, operands_of_formula, operands_by, is_expression_kind, is_run_kind, Breaks, unknown, call_count, form_count, twice, no_expression, no_place, no_port, isnt_run, turn_of, IsFirstBroken}
 use Rattle.tp_check.proofs.Known.{AreKnown, front, back, each_of_three, names_behind}

@@ -13,7 +13,7 @@ use Rattle.tp_check.specs.declared.refusal.CheckRefusal.TheVariants.{WrongCount}
 use Rattle.tp_scope.specs.Scope.{Names, Signature, VisibleNames, Called, called_from, called_of}
 use Rattle.tp_check.specs.Outcome.{CheckOutcome, mapped, both, three, not_run, not_expression}
 use Rattle.tp_scope.specs.Phrases.{is_state_operator, is_state_phrase, is_state_kind, are_state_phrases, calls_in, calls_in_kind, calls_in_all, is_place_phrase, is_place_kind, phrase_count, nexts_of, behind_nexts, at_of}
-use Rattle.tp_scope.specs.Definitions.{signatures_of, CallsDefinition, itself, by_call, IsStateDefinition, AreStates}
+use Rattle.tp_scope.specs.Names.{signatures_of, CallsDefinition, itself, by_call, IsStateDefinition, AreStates}
 use Rattle.tp_check.specs.Positions.{called_expr, expr_of, expr_of_kind, exprs_in, arguments_in, equation_of, is_state_in, place_is, state_in, called_formula, formula_of, formula_of_kind, formulas_in}
 use Rattle.tp_check.proofs.Broken.{in_front, behind}
 

@@ -15,8 +15,7 @@ use Rattle.tp_check.specs.declared.refusal.CheckRefusal.{CheckRefusal}
 use Rattle.tp_check.specs.declared.refusal.CheckRefusal.TheVariants.{Twice, Unknown, NotExecutable, NotExpression, NotPlace, NotPort, WrongCount}
 use Rattle.tp_value.specs.Globals.{is_lower}
 use Rattle.tp_scope.specs.Scope.{Names, Called, VisibleNames, with_binder, with_binders, referent_of, called_of}
-use Rattle.tp_scope.specs.Names.{has_repeat}
-use Rattle.tp_scope.specs.Definitions.{calls_state}
+use Rattle.tp_scope.specs.Names.{has_repeat, calls_state}
 use Rattle.tp_check.specs.Outcome.{CheckOutcome, not_run, not_expression, mapped, both, three}
 use Rattle.tp_scope.specs.Phrases.{is_state_phrase, is_place_phrase, is_place_kind, takes, phrase_count, nexts_of, behind_nexts, at_of}
 
@@ -249,32 +248,6 @@ binary_in names at op.Mod l r = state_in names at (k.binary op.Mod l r)
 binary_in names at op.Chop l r = state_in names at (k.binary op.Chop l r)
 binary_in names at op.Proj l r = state_in names at (k.binary op.Proj l r)
 
--- what an operator makes of two formulas; only `;` and `proj` make one
-abbrev pub composition_of : Op → Option (FormulaTree → FormulaTree → FormulaTree)
-composition_of op.Chop = Some chop
-composition_of op.Proj = Some project
-composition_of op.Or = None
-composition_of op.Equal = None
-composition_of op.Differs = None
-composition_of op.Less = None
-composition_of op.LessEqual = None
-composition_of op.Greater = None
-composition_of op.GreaterEqual = None
-composition_of op.Gets = None
-composition_of op.Arrow = None
-composition_of op.Becomes = None
-composition_of op.Plus = None
-composition_of op.Minus = None
-composition_of op.Times = None
-composition_of op.Div = None
-composition_of op.Mod = None
-
--- two formulas with an operator between them, or else another formula where the operator makes none
-abbrev pub composed_or : Option (FormulaTree → FormulaTree → FormulaTree)
-    → (w v other : CheckOutcome FormulaTree) → CheckOutcome FormulaTree
-composed_or (Some make) w v other = both make w v
-composed_or None w v other = other
-
 abbrev pub bare_of : Bare → FormulaTree
 bare_of Empty = empty
 bare_of More = more
@@ -305,9 +278,11 @@ abbrev mutual
       mapped (λ ws. conjunction (formulas_of ws)) (formulas_in names ps)
   formula_of_kind names at (k.truth true) = Ok trivial
   formula_of_kind names at (k.negation p) = negation_in names at p
-  formula_of_kind names at (k.binary o l r) =
-      composed_or (composition_of o) (formula_of names l) (formula_of names r)
-      (binary_in names at o l r)
+  formula_of_kind names at (k.binary op.Chop l r) =
+      both chop (formula_of names l) (formula_of names r)
+  formula_of_kind names at (k.binary op.Proj l r) =
+      both project (formula_of names l) (formula_of names r)
+  formula_of_kind names at (k.binary o l r) = binary_in names at o l r
   formula_of_kind names at (k.bare word) = Ok (bare_of word)
   formula_of_kind names at (k.next w) = mapped next (formula_of names w)
   formula_of_kind names at (k.form f.Always (phrase_then w no_phrase)) =

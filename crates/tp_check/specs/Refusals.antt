@@ -10,9 +10,8 @@ use Rattle.tp_meaning.specs.Interval.{ProgramTree}
 use Rattle.tp_check.specs.declared.refusal.CheckRefusal.{CheckRefusal}
 use Rattle.tp_check.specs.declared.refusal.CheckRefusal.TheVariants.{Twice, Unknown, WrongCount, NotExpression, NotPlace, NotPort, NotExecutable, NoMemory}
 use Rattle.tp_scope.specs.Scope.{Names, Signature, Called, called_of}
-use Rattle.tp_scope.specs.Names.{has_repeat, twice_defined}
+use Rattle.tp_scope.specs.Names.{has_repeat, twice_defined, signatures_of, calls_state, AreStates}
 use Rattle.tp_scope.specs.Phrases.{is_state_operator, is_state_phrase, is_place_phrase, is_place_kind, is_port_kind, takes, phrase_count, nexts_of, behind_nexts}
-use Rattle.tp_scope.specs.Definitions.{signatures_of, calls_state, AreStates}
 use Rattle.tp_check.specs.Program.{ChecksTo}
 
 -- ---- where phrases stand

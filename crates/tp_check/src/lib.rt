@@ -9,6 +9,7 @@ mod formula;
 mod hiding;
 mod laws;
 mod loops;
+mod memory;
 mod operation;
 mod program;
 mod refusal;

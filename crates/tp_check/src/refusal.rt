@@ -1,9 +1,4 @@
 // Why a source is no program.
-ghost use Rattle.std.specs.Prelude.{◌≡◌};
-ghost use Rattle.tp_check.specs.declared.refusal.CheckRefusal.TheVariants.{NoMemory};
-
-use std::alloc::AllocFailed;
-use tp_value::NoMemory;
 
 /// Why a source is no program. A phrase is named by the place of the first byte of its text.
 #[derive(Clone, Copy, Debug, PartialEq, Eq)]
@@ -23,20 +18,4 @@ pub enum CheckRefusal {
     /// The phrase at this place isn't run.
     NotExecutable { at: u32 },
     NoMemory,
-}
-
-impl<T: Drop> From<AllocFailed<T>> for CheckRefusal {
-    ghost from_gives = { λ _ e. e ≡ NoMemory };
-
-    fn from(_: AllocFailed<T>) -> CheckRefusal {
-        CheckRefusal::NoMemory
-    }
-}
-
-impl From<NoMemory> for CheckRefusal {
-    ghost from_gives = { λ _ e. e ≡ NoMemory };
-
-    fn from(_: NoMemory) -> CheckRefusal {
-        CheckRefusal::NoMemory
-    }
 }

@@ -16,8 +16,7 @@ use Rattle.tp_value.specs.Tree.{Tree, same_tree}
 use Rattle.tp_value.proofs.Trees.{same_tree_is_equality}
 use Rattle.tp_meaning.specs.Inputs.{InputRow, InputPort, InputTable, has_state, row_value, port_of, range_value, default_value}
 use Rattle.tp_inputs.specs.declared.span.Span.{Span}
-use Rattle.tp_inputs.specs.Canonical.{is_ahead, are_rows, is_told, are_ports, IsCanonical}
-use Rattle.tp_inputs.specs.Spans.{GivesValue}
+use Rattle.tp_inputs.specs.Spans.{is_ahead, are_rows, is_told, are_ports, IsCanonical, GivesValue}
 
 -- ---- a row
 

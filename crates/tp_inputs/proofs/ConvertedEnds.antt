@@ -9,7 +9,7 @@ use Rattle.std.proofs.lemmas.List.Sums.{count_by-le-length}
 use Rattle.tp_value.specs.Spelling.{decimal_value}
 use Rattle.tp_inputs.specs.declared.span.Span.{Span}
 use Rattle.tp_inputs.specs.declared.span.Span.TheVariants.{States, Others}
-use Rattle.tp_inputs.specs.Heads.{last_state, named_state, between, end_of, cut_range, head_of}
+use Rattle.tp_inputs.specs.Spans.{last_state, named_state, between, end_of, cut_range, head_of}
 use Rattle.tp_inputs.proofs.StateLemmas.{state_within}
 use Rattle.tp_inputs.proofs.HeadLemmas.{RangeHas, HeadHas, ranged_has}
 

@@ -9,12 +9,8 @@ use Rattle.tp_meaning.specs.Inputs.{InputRow, InputTable, row_value, port_of, ra
 use Rattle.tp_inputs.specs.declared.span.Span.{Span}
 use Rattle.tp_inputs.specs.declared.span.Head.{Head}
 use Rattle.tp_inputs.specs.declared.span.Head.TheVariants.{Speaks, Silent, Unheard}
-use Rattle.tp_inputs.specs.Canonical.{are_rows, IsCanonical}
-use Rattle.tp_inputs.specs.Spans.{span_has, is_others, GivesValue}
-use Rattle.tp_inputs.specs.Heads.{head_of}
-use Rattle.tp_inputs.specs.Parts.{BeginsPair}
-use Rattle.tp_inputs.specs.Lines.{PassesPart, blank, given, ReadsPairs, here, passes, IsLine}
-use Rattle.tp_inputs.specs.Table.{AreLines}
+use Rattle.tp_inputs.specs.Spans.{are_rows, IsCanonical, span_has, is_others, GivesValue, head_of}
+use Rattle.tp_inputs.specs.Table.{BeginsPair, PassesPart, blank, given, ReadsPairs, here, passes, IsLine, AreLines}
 use Rattle.tp_inputs.proofs.HeadLemmas.{HeadHas}
 use Rattle.tp_inputs.proofs.CanonicalLemmas.{has_yes, has_behind, row_at, row_past, rows_parts, rows_behind, first_has, ports_parts, names, cmp, same_name, port_here, no_port, range_at, default_at, rest_canonical, later}
 

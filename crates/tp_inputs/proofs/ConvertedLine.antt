@@ -19,10 +19,8 @@ use Rattle.tp_lex.specs.Pieces.{IsNoWord}
 use Rattle.tp_meaning.specs.Inputs.{InputTable}
 use Rattle.tp_inputs.specs.declared.span.Span.{Span}
 use Rattle.tp_inputs.specs.declared.span.Head.{Head}
-use Rattle.tp_inputs.specs.Heads.{ranged_head}
-use Rattle.tp_inputs.specs.Spans.{is_given, GivesValue}
-use Rattle.tp_inputs.specs.Parts.{BeginsPort, is_set_apart, BeginsPair, pair}
-use Rattle.tp_inputs.specs.Lines.{blank, given, ReadsPairs, here, passes, IsLine}
+use Rattle.tp_inputs.specs.Spans.{ranged_head, is_given, GivesValue}
+use Rattle.tp_inputs.specs.Table.{BeginsPort, is_set_apart, BeginsPair, pair, blank, given, ReadsPairs, here, passes, IsLine}
 use Rattle.tp_inputs.specs.Converted.{valued_text}
 use Rattle.tp_inputs.proofs.ConvertedHeads.{AllPass, passes_append, is_plain, NamesSpan, prefix_made, head_made}
 

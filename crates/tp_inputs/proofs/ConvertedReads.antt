@@ -11,11 +11,8 @@ use Rattle.tp_inputs.specs.declared.span.Span.{Span}
 use Rattle.tp_inputs.specs.declared.span.Span.TheVariants.{States, Others}
 use Rattle.tp_inputs.specs.declared.span.Head.{Head}
 use Rattle.tp_inputs.specs.declared.span.Head.TheVariants.{Speaks, Silent, Unheard}
-use Rattle.tp_inputs.specs.Canonical.{are_rows, are_ports, IsCanonical}
-use Rattle.tp_inputs.specs.Heads.{last_state, has_ranges, head_of, ranged_head}
-use Rattle.tp_inputs.specs.Parts.{BeginsPair, pair}
-use Rattle.tp_inputs.specs.Lines.{IsLine}
-use Rattle.tp_inputs.specs.Table.{AreLines, IsInputsText}
+use Rattle.tp_inputs.specs.Spans.{are_rows, are_ports, IsCanonical, last_state, has_ranges, head_of, ranged_head}
+use Rattle.tp_inputs.specs.Table.{BeginsPair, pair, IsLine, AreLines, IsInputsText}
 use Rattle.tp_inputs.specs.Converted.{range_text, row_line, row_lines, default_lines, converted_lines, converted, EndsWithin}
 use Rattle.tp_inputs.specs.Laws.{ConvertedIsTheTable}
 use Rattle.tp_inputs.proofs.CanonicalLemmas.{none_canonical, rows_parts, ports_parts, names, cmp, input_port}

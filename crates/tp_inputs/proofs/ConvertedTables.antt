@@ -11,8 +11,7 @@ use Rattle.tp_value.specs.Tree.{Tree}
 use Rattle.tp_meaning.specs.Inputs.{InputRow, InputPort, InputTable, has_state, row_value, port_of, range_value, default_value}
 use Rattle.tp_inputs.specs.declared.span.Span.{Span}
 use Rattle.tp_inputs.specs.declared.span.Span.TheVariants.{States, Others}
-use Rattle.tp_inputs.specs.Canonical.{are_rows, is_told, are_ports, IsCanonical}
-use Rattle.tp_inputs.specs.Spans.{span_has, is_others, rows_meet, port_meets, is_given, GivesValue}
+use Rattle.tp_inputs.specs.Spans.{are_rows, is_told, are_ports, IsCanonical, span_has, is_others, rows_meet, port_meets, is_given, GivesValue}
 use Rattle.tp_inputs.proofs.CanonicalLemmas.{has_yes, rows_parts, rows_from, rows_behind, ports_parts, ports_from, names, cmp, same_name, name_is, below_apart, port_here, port_past, no_port, range_at, default_at, input_port}
 
 -- ---- the ports of which something is said

@@ -7,8 +7,8 @@ use Rattle.tp_value.specs.Tree.{Tree}
 use Rattle.tp_meaning.specs.Inputs.{InputRow, InputTable}
 use Rattle.tp_inputs.specs.declared.span.Span.{Span}
 use Rattle.tp_inputs.specs.declared.span.Span.TheVariants.{States, Others}
-use Rattle.tp_inputs.specs.Heads.{last_state, has_ranges}
-use Rattle.tp_inputs.specs.Parts.{BeginsPair}
+use Rattle.tp_inputs.specs.Spans.{last_state, has_ranges}
+use Rattle.tp_inputs.specs.Table.{BeginsPair}
 use Rattle.tp_inputs.specs.Converted.{EndsWithin}
 use Rattle.tp_inputs.specs.Laws.{TablesEndWithin}
 use Rattle.tp_inputs.proofs.CanonicalLemmas.{none_canonical}

@@ -15,8 +15,7 @@ use Rattle.tp_value.proofs.Trees.{same_tree_is_equality}
 use Rattle.tp_meaning.specs.Inputs.{InputRow, InputPort, InputTable, has_state, row_value, port_of, range_value, default_value}
 use Rattle.tp_inputs.specs.declared.span.Span.{Span}
 use Rattle.tp_inputs.specs.declared.span.Span.TheVariants.{States, Others}
-use Rattle.tp_inputs.specs.Canonical.{are_rows, is_told, IsCanonical}
-use Rattle.tp_inputs.specs.Spans.{span_has, is_others, rows_meet, port_meets, is_given, GivesValue}
+use Rattle.tp_inputs.specs.Spans.{are_rows, is_told, IsCanonical, span_has, is_others, rows_meet, port_meets, is_given, GivesValue}
 use Rattle.tp_inputs.specs.Moves.{GivesRows, GivesPort}
 use Rattle.tp_inputs.proofs.HeadLemmas.{IsOrdered}
 use Rattle.tp_inputs.proofs.CanonicalLemmas.{has_yes, has_before, has_behind, row_at, row_past, rows_parts, rows_from, none_before, Behind, behind_ahead, rows_behind, first_has, row, ports_parts, ports_from, names, cmp, same_name, later, port_here, port_past, all_later, below_apart, range_at, default_at, rest_canonical, input_port}

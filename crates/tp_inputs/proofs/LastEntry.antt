@@ -10,8 +10,7 @@ use Rattle.tp_value.specs.declared.value.Value.{Value}
 use Rattle.std.proofs.lemmas.Bool.Decides.{nat_tests}
 use Rattle.tp_meaning.specs.Inputs.{InputRow, row_value}
 use Rattle.tp_inputs.specs.declared.ranges.Row.{Row}
-use Rattle.tp_inputs.specs.Canonical.{are_rows}
-use Rattle.tp_inputs.specs.Spans.{rows_meet}
+use Rattle.tp_inputs.specs.Spans.{are_rows, rows_meet}
 use Rattle.tp_inputs.specs.Model.{row_of}
 use Rattle.tp_inputs.specs.Places.{IsPlaced}
 use Rattle.tp_inputs.proofs.RowLemmas.{Order, less, equal, greater, order, meets_capped, none_begins, last_meets, unmet}

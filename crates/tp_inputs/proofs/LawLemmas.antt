@@ -7,13 +7,9 @@ use Rattle.tp_inputs.specs.declared.fault.Fault.{Fault}
 use Rattle.tp_inputs.specs.declared.span.Span.{Span}
 use Rattle.tp_inputs.specs.declared.span.Head.{Head}
 use Rattle.tp_inputs.specs.declared.span.Head.TheVariants.{Speaks, Silent, Unheard}
-use Rattle.tp_inputs.specs.Canonical.{IsCanonical}
-use Rattle.tp_inputs.specs.Spans.{GivesValue}
-use Rattle.tp_inputs.specs.Heads.{has_ranges, head_of}
+use Rattle.tp_inputs.specs.Spans.{IsCanonical, GivesValue, has_ranges, head_of}
 use Rattle.tp_inputs.specs.FirstPart.{LinePart, Blank, Given, Faulty, BeginsPart, first_part}
-use Rattle.tp_inputs.specs.Lines.{PassesPart, blank, given, ReadsPairs, here, passes, IsLine}
-use Rattle.tp_inputs.specs.Faults.{BeginsFault, HasFault}
-use Rattle.tp_inputs.specs.Table.{AreLines, IsFirstFault}
+use Rattle.tp_inputs.specs.Table.{PassesPart, blank, given, ReadsPairs, here, passes, IsLine, BeginsFault, HasFault, AreLines, IsFirstFault}
 use Rattle.tp_inputs.specs.Laws.{EachTextIsJudged, OneTable, OneFirstFault, NoFaultyTable, RefusedValuesHaveTheirCause}
 use Rattle.tp_value.proofs.ReadLemmas.{never_memory, refused_right}
 use Rattle.tp_inputs.proofs.PartLemmas.{part_is, part_one, takes, Takes, no_more}

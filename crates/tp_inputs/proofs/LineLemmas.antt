@@ -5,11 +5,9 @@ use Rattle.tp_meaning.specs.Inputs.{InputTable}
 use Rattle.tp_inputs.specs.declared.refusal.LineRefusal.{LineRefusal}
 use Rattle.tp_inputs.specs.declared.refusal.LineRefusal.TheVariants as l
 use Rattle.tp_inputs.specs.declared.span.Span.{Span}
-use Rattle.tp_inputs.specs.Canonical.{are_ports}
-use Rattle.tp_inputs.specs.Spans.{is_given}
-use Rattle.tp_inputs.specs.Parts.{pair}
+use Rattle.tp_inputs.specs.Spans.{are_ports, is_given}
+use Rattle.tp_inputs.specs.Table.{pair, PassesPart, blank, given, ReadsPairs, here, passes}
 use Rattle.tp_inputs.specs.FirstPart.{LinePart, Blank, Given, BeginsPart, first_part}
-use Rattle.tp_inputs.specs.Lines.{PassesPart, blank, given, ReadsPairs, here, passes}
 use Rattle.tp_inputs.specs.Read.{IsPartRefusal, IsPairsRefusal}
 use Rattle.tp_inputs.proofs.PartLemmas.{part_is, takes}
 

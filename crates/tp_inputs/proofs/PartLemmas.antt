@@ -17,8 +17,7 @@ use Rattle.tp_inputs.specs.declared.fault.Fault.TheVariants as f
 use Rattle.tp_inputs.specs.declared.part.FoundPart.{FoundPart}
 use Rattle.tp_inputs.specs.declared.span.Span.{Span}
 use Rattle.tp_inputs.specs.Spans.{is_given}
-use Rattle.tp_inputs.specs.Parts.{BeginsPort, IsNewPort, is_set_apart, pair}
-use Rattle.tp_inputs.specs.Faults.{no_port, twice, no_value, not_apart}
+use Rattle.tp_inputs.specs.Table.{BeginsPort, IsNewPort, is_set_apart, pair, no_port, twice, no_value, not_apart}
 use Rattle.tp_inputs.specs.FirstPart.{LinePart, Blank, Given, Faulty, BeginsPart, port_len, value_part, asked_part, port_part, pair_of_len, pair_part, first_part}
 
 -- what `port_len` found

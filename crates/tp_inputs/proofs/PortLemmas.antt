@@ -17,8 +17,7 @@ use Rattle.tp_value.specs.Tree.{Tree}
 use Rattle.tp_meaning.specs.Inputs.{InputRow, InputPort, InputTable, row_value, port_of, range_value, default_value, input_at}
 use Rattle.tp_inputs.specs.declared.span.Span.{Span}
 use Rattle.tp_inputs.specs.declared.ports.Port.{Port}
-use Rattle.tp_inputs.specs.Canonical.{are_rows, is_told, are_ports}
-use Rattle.tp_inputs.specs.Spans.{span_has, is_others, port_meets, is_given, GivesValue}
+use Rattle.tp_inputs.specs.Spans.{are_rows, is_told, are_ports, span_has, is_others, port_meets, is_given, GivesValue}
 use Rattle.tp_inputs.specs.Model.{rows_of, default_of, named_port}
 
 abbrev pub Key : Type 0

@@ -9,8 +9,7 @@ use Rattle.std.proofs.lemmas.Bool.Decides.{nat_tests}
 use Rattle.tp_value.specs.Tree.{same_tree}
 use Rattle.tp_value.proofs.Trees.{same_tree_is_equality}
 use Rattle.tp_meaning.specs.Inputs.{InputRow, row_value}
-use Rattle.tp_inputs.specs.Canonical.{is_ahead, are_rows}
-use Rattle.tp_inputs.specs.Spans.{rows_meet}
+use Rattle.tp_inputs.specs.Spans.{is_ahead, are_rows, rows_meet}
 
 -- ---- where a state is
 

@@ -4,8 +4,7 @@ use Rattle.std.specs.Ordering.{nat_cmp, match_ordering}
 use Rattle.std.proofs.lemmas.Bool.Decides.{nat_tests}
 use Rattle.tp_value.specs.Tree.{Tree}
 use Rattle.tp_meaning.specs.Inputs.{InputRow, row_value}
-use Rattle.tp_inputs.specs.Canonical.{are_rows}
-use Rattle.tp_inputs.specs.Spans.{rows_meet}
+use Rattle.tp_inputs.specs.Spans.{are_rows, rows_meet}
 use Rattle.tp_inputs.specs.Moves.{IsTaken, GivesRows, IsOpened, IsClosed}
 use Rattle.tp_inputs.proofs.RowLemmas.{IsWithin, inside, below, above, place, inside_range, below_range, above_range, Ahead, Leading, leading, led, none_below, other_behind, meets_none, none_meets, row_at, without, Order, less, equal, greater, order, further}
 

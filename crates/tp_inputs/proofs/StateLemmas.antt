@@ -4,7 +4,7 @@ use Rattle.std.specs.List.{list_all}
 use Rattle.std.specs.Char.{is_ascii_digit}
 use Rattle.std.proofs.lemmas.Bool.Decides.{nat_tests}
 use Rattle.tp_value.specs.Spelling.{with_digit, decimal_value}
-use Rattle.tp_inputs.specs.Heads.{last_state}
+use Rattle.tp_inputs.specs.Spans.{last_state}
 
 -- the greatest number with so many digits behind b
 abbrev nines : ℕ → ℕ → ℕ

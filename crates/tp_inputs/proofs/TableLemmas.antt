@@ -7,10 +7,8 @@ use Rattle.tp_inputs.specs.declared.fault.Fault.{Fault}
 use Rattle.tp_inputs.specs.declared.fault.Fault.TheVariants.{Bad, Twice, TooLong}
 use Rattle.tp_inputs.specs.declared.refusal.LineRefusal.{LineRefusal}
 use Rattle.tp_inputs.specs.declared.refusal.LineRefusal.TheVariants as l
-use Rattle.tp_inputs.specs.Heads.{has_ranges, head_of}
-use Rattle.tp_inputs.specs.Lines.{IsLine}
-use Rattle.tp_inputs.specs.Faults.{HasFault}
-use Rattle.tp_inputs.specs.Table.{AreLines, IsFirstFault, IsInputsText}
+use Rattle.tp_inputs.specs.Spans.{has_ranges, head_of}
+use Rattle.tp_inputs.specs.Table.{IsLine, HasFault, AreLines, IsFirstFault, IsInputsText}
 use Rattle.tp_inputs.specs.InputsRefusals.{IsInputsRefusal}
 use Rattle.tp_inputs.specs.Read.{refusal_in, IsLineRefusal}
 

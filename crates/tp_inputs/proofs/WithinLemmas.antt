@@ -13,12 +13,8 @@ use Rattle.tp_meaning.specs.Inputs.{InputRow, InputPort, InputTable, has_state, 
 use Rattle.tp_inputs.specs.declared.span.Span.{Span}
 use Rattle.tp_inputs.specs.declared.span.Head.{Head}
 use Rattle.tp_inputs.specs.declared.span.Head.TheVariants.{Speaks, Silent, Unheard}
-use Rattle.tp_inputs.specs.Canonical.{are_rows, IsCanonical}
-use Rattle.tp_inputs.specs.Spans.{span_has, is_others, GivesValue}
-use Rattle.tp_inputs.specs.Heads.{has_ranges, head_of}
-use Rattle.tp_inputs.specs.Parts.{pair}
-use Rattle.tp_inputs.specs.Lines.{PassesPart, blank, given, ReadsPairs, here, passes, IsLine}
-use Rattle.tp_inputs.specs.Table.{IsInputsText, AreLines}
+use Rattle.tp_inputs.specs.Spans.{are_rows, IsCanonical, span_has, is_others, GivesValue, has_ranges, head_of}
+use Rattle.tp_inputs.specs.Table.{pair, PassesPart, blank, given, ReadsPairs, here, passes, IsLine, IsInputsText, AreLines}
 use Rattle.tp_inputs.specs.Laws.{TablesAreWithin}
 use Rattle.tp_inputs.specs.Within.{RowValuesHave, DefaultValueHas, PortValuesHave, ValuesHave}
 use Rattle.tp_inputs.proofs.CanonicalLemmas.{has_behind, row_past, rows_parts, rows_behind, first_has, port_here, no_port, later, same_name, ports_parts, rest_canonical, range_at, default_at}

@@ -5,7 +5,7 @@ use Rattle.std.specs.Fmt.{decimal}
 use Rattle.tp_value.specs.Tree.{Tree}
 use Rattle.tp_value.specs.Written.{text_of}
 use Rattle.tp_meaning.specs.Inputs.{InputRow, InputPort, InputTable}
-use Rattle.tp_inputs.specs.Heads.{last_state, format_line}
+use Rattle.tp_inputs.specs.Spans.{last_state, format_line}
 
 -- one state, or the first and the last with `-` between them; the last state that a range may name
 -- is left out

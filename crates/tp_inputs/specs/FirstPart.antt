@@ -12,8 +12,7 @@ use Rattle.tp_inputs.specs.declared.span.Span.{Span}
 use Rattle.tp_inputs.specs.Spans.{is_given}
 use Rattle.tp_inputs.specs.declared.fault.Fault.TheVariants as f
 use Rattle.tp_inputs.specs.declared.fault.Fault.{Fault}
-use Rattle.tp_inputs.specs.Parts.{is_set_apart, BeginsPair}
-use Rattle.tp_inputs.specs.Faults.{fault_of, BeginsFault}
+use Rattle.tp_inputs.specs.Table.{is_set_apart, BeginsPair, fault_of, BeginsFault}
 
 -- a blank, a pair with the number of its bytes, or a fault
 pub data LinePart : Type 0 where

@@ -7,7 +7,7 @@ use Rattle.tp_value.specs.Reading.{refused, value_answer}
 use Rattle.tp_value.specs.Answers.{IsReadRefused}
 use Rattle.tp_meaning.specs.Inputs.{InputTable}
 use Rattle.tp_inputs.specs.declared.fault.Fault.{Fault}
-use Rattle.tp_inputs.specs.Heads.{last_state}
+use Rattle.tp_inputs.specs.Spans.{last_state}
 use Rattle.tp_inputs.specs.Converted.{EndsWithin, converted}
 use Rattle.tp_inputs.specs.Table.{IsInputsText, IsFirstFault}
 use Rattle.tp_inputs.specs.Within.{InputsWithin}

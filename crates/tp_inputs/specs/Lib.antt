@@ -1,14 +1,9 @@
 pub mod Bounds
-pub mod Canonical
 pub mod Converted
-pub mod Faults
 pub mod FirstPart
-pub mod Heads
 pub mod Laws
-pub mod Lines
 pub mod Model
 pub mod Moves
-pub mod Parts
 pub mod Places
 pub mod Read
 pub mod Spans

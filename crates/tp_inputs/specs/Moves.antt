@@ -3,8 +3,7 @@ use Rattle.std.specs.Prelude.{◌≡◌, ◌≢◌, ℕ, suc, ◌+◌, ◌<◌, 
 use Rattle.tp_value.specs.Tree.{Tree}
 use Rattle.tp_meaning.specs.Inputs.{InputRow, InputPort, row_value}
 use Rattle.tp_inputs.specs.declared.span.Span.{Span}
-use Rattle.tp_inputs.specs.Canonical.{are_rows, is_told}
-use Rattle.tp_inputs.specs.Spans.{span_has, is_others}
+use Rattle.tp_inputs.specs.Spans.{are_rows, is_told, span_has, is_others}
 
 -- The row from a to b is taken away, which has the state and the value; the states beside it have
 -- another value, or none.

@@ -13,7 +13,7 @@ use Rattle.tp_inputs.specs.declared.refusal.LineRefusal.TheVariants as l
 use Rattle.tp_inputs.specs.declared.span.Span.{Span}
 use Rattle.tp_inputs.specs.declared.span.Head.{Head}
 use Rattle.tp_inputs.specs.FirstPart.{LinePart, Blank, Given, Faulty}
-use Rattle.tp_inputs.specs.Faults.{BeginsFault, StopsAt, HasFault}
+use Rattle.tp_inputs.specs.Table.{BeginsFault, StopsAt, HasFault}
 use Rattle.tp_inputs.specs.Model.{table_of}
 use Rattle.tp_inputs.specs.Spans.{is_given}
 

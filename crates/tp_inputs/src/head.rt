@@ -3,7 +3,7 @@ ghost use Rattle.std.specs.Prelude.{◌≡◌, ◌≤◌, ◌==◌, length, min,
 ghost use Rattle.std.specs.Char.{is_ascii_digit};
 ghost use Rattle.std.specs.List.{prefix_len, position, list_all};
 ghost use Rattle.tp_value.specs.Spelling.{is_value_blank, decimal_value};
-ghost use Rattle.tp_inputs.specs.Heads as spec;
+ghost use Rattle.tp_inputs.specs.Spans as spec;
 ghost use Rattle.tp_inputs.specs.Bounds.{IsSpan, HeadBounds};
 
 use crate::span::{Head, Span};
@@ -84,7 +84,7 @@ fn dash_place(text: &[u8]) -> Option<usize>
 }
 
 // The state that one to eight digits name.
-#[tactic(auto, unfolding(crate::specs::Heads::named_state))]
+#[tactic(auto, unfolding(crate::specs::Spans::named_state))]
 fn named_state(digits: &[u8]) -> Option<u64>
     ensures value { result ≡ spec.named_state digits.now }
     ensures within { IfSome result (λ state. state ≤ spec.last_state) }
@@ -125,7 +125,7 @@ fn end_of(text: &[u8]) -> Option<u64>
 }
 
 // `k`, `k-m`, `k-`, or `*`.
-#[tactic(auto, unfolding(crate::specs::Heads::range_of))]
+#[tactic(auto, unfolding(crate::specs::Spans::range_of))]
 fn range_of(text: &[u8]) -> Option<Span>
     ensures value { result ≡ spec.range_of text.now }
     ensures within { IfSome result IsSpan }
@@ -140,7 +140,7 @@ fn range_of(text: &[u8]) -> Option<Span>
 }
 
 /// What a line of the second format begins with.
-#[tactic(auto, unfolding(crate::specs::Heads::ranged_head))]
+#[tactic(auto, unfolding(crate::specs::Spans::ranged_head))]
 pub fn ranged_head(line: &[u8]) -> Head
     ensures value { result ≡ spec.ranged_head line.now }
     ensures within { HeadBounds line.now result }

@@ -4,7 +4,7 @@ ghost use Rattle.std.specs.Coded.{Coded-set, coded_bool};
 ghost use Rattle.std.specs.Option.{option_map};
 ghost use Rattle.tp_value.specs.Read.{tree};
 ghost use Rattle.tp_meaning.specs.Inputs.{input_at};
-ghost use Rattle.tp_inputs.specs.Canonical.{are_ports};
+ghost use Rattle.tp_inputs.specs.Spans.{are_ports};
 ghost use Rattle.tp_inputs.specs.Model.{table_of};
 ghost use Rattle.tp_inputs.specs.Within.{InputsWithin, InputsWithin-prop};
 

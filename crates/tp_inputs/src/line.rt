@@ -1,8 +1,8 @@
 // The pairs of a line.
 ghost use Rattle.std.specs.Prelude.{◌≡◌, ◌≢◌, ◌≤◌, [], true, length, drop, IfOk, IfErr};
 ghost use Rattle.tp_inputs.specs.Bounds.{IsSpan, HeadBounds};
-ghost use Rattle.tp_inputs.specs.Canonical.{are_ports};
-ghost use Rattle.tp_inputs.specs.Lines.{PassesPart, ReadsPairs, IsLine};
+ghost use Rattle.tp_inputs.specs.Spans.{are_ports};
+ghost use Rattle.tp_inputs.specs.Table.{PassesPart, ReadsPairs, IsLine};
 ghost use Rattle.tp_inputs.specs.Model.{table_of};
 ghost use Rattle.tp_inputs.specs.Read.{IsPartRefusal, IsPairsRefusal, IsLineRefusal};
 

@@ -2,9 +2,8 @@
 ghost use Rattle.std.specs.Prelude.{◌≡◌, ◌≢◌, ◌+◌, ◌<◌, ◌≤◌, [], length, take, true, IfOk, IfSome, Some};
 ghost use Rattle.tp_value.specs.declared.reading.ReadValue.TheVariants.{NoMemory as refused_memory};
 ghost use Rattle.tp_value.specs.Reading.{value_answer};
-ghost use Rattle.tp_inputs.specs.Parts.{is_set_apart};
+ghost use Rattle.tp_inputs.specs.Table.{fault_of, is_set_apart};
 ghost use Rattle.tp_inputs.specs.FirstPart as spec;
-ghost use Rattle.tp_inputs.specs.Faults.{fault_of};
 ghost use Rattle.tp_inputs.specs.Spans.{is_given};
 ghost use Rattle.tp_inputs.specs.declared.span.Span.{Span};
 ghost use Rattle.tp_meaning.specs.Inputs.{InputTable};

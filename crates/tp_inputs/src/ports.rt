@@ -4,8 +4,7 @@ ghost use Rattle.std.specs.Option.{option_map, option_or};
 ghost use Rattle.tp_value.specs.Read.{tree};
 ghost use Rattle.tp_meaning.specs.Inputs.{row_value, input_at};
 ghost use Rattle.tp_inputs.specs.Bounds.{IsSpan};
-ghost use Rattle.tp_inputs.specs.Canonical.{are_rows, are_ports};
-ghost use Rattle.tp_inputs.specs.Spans.{is_given, port_meets, GivesValue};
+ghost use Rattle.tp_inputs.specs.Spans.{are_rows, are_ports, is_given, port_meets, GivesValue};
 ghost use Rattle.tp_inputs.specs.Model.{rows_of, default_of, named_port, table_of};
 ghost use Rattle.tp_inputs.specs.Moves.{GivesPort};
 

@@ -42,8 +42,7 @@ impl Ranges {
     ghost use Rattle.std.specs.Option.{option_map};
     ghost use Rattle.tp_value.specs.Read.{tree};
     ghost use Rattle.tp_meaning.specs.Inputs.{row_value};
-    ghost use Rattle.tp_inputs.specs.Canonical.{are_rows};
-    ghost use Rattle.tp_inputs.specs.Spans.{rows_meet};
+    ghost use Rattle.tp_inputs.specs.Spans.{are_rows, rows_meet};
     ghost use Rattle.tp_inputs.specs.Places.{HasPlace};
     ghost use Rattle.tp_inputs.specs.Model.{rows_of, IsLastBegun, FindsRow};
     ghost use Rattle.tp_inputs.specs.Moves.{TakesRow, IsOpened, IsClosed, GivesRows};

@@ -2,7 +2,7 @@
 ghost use Rattle.std.specs.Prelude.{◌≡◌, ◌<◌, ◌^◌, Bool, true, length, IfOk, IfErr};
 ghost use Rattle.std.specs.Str.Lines.{lines};
 ghost use Rattle.tp_inputs.specs.Bounds.{HeadBounds};
-ghost use Rattle.tp_inputs.specs.Heads as spec;
+ghost use Rattle.tp_inputs.specs.Spans as spec;
 ghost use Rattle.tp_inputs.specs.Read.{inputs_of};
 ghost use Rattle.tp_inputs.specs.Table.{IsInputsText};
 ghost use Rattle.tp_inputs.specs.InputsRefusals.{IsInputsRefusal};

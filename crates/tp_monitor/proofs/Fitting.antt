@@ -21,7 +21,7 @@ use Rattle.tp_check.proofs.Fitting.{Known, mapped_ok, both_ok, three_ok, if_ok, 
 use Rattle.tp_verdict.specs.Wide as wide
 use Rattle.tp_verdict.specs.Wide.{WideTree, WideTrees, IsExprOf, IsExprOfSome, wide_formulas_of}
 use Rattle.tp_verdict.specs.Widened.{widened, all_widened}
-use Rattle.tp_verdict.specs.Sound.{WideFits}
+use Rattle.tp_verdict.specs.Trace.{WideFits}
 use Rattle.tp_verdict.specs.Read.{wide_tree}
 use Rattle.tp_monitor.specs.declared.wide.Wide.{Wide}
 use Rattle.tp_monitor.specs.Seen.{wide_seen}

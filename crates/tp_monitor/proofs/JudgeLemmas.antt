@@ -9,9 +9,8 @@ use Rattle.tp_store.specs.Stock.{Stock}
 use Rattle.tp_store.proofs.Members.{in_right}
 use Rattle.tp_verdict.specs.Wide.{WideTree}
 use Rattle.tp_verdict.specs.Verdict.{no}
-use Rattle.tp_verdict.specs.Table.{verdict}
+use Rattle.tp_verdict.specs.Trace.{verdict, FactsOfStates, known_outcome, clash_somewhere, is_torn, whole_verdict}
 use Rattle.tp_verdict.specs.Found.{found_in}
-use Rattle.tp_verdict.specs.Trace.{FactsOfStates, known_outcome, clash_somewhere, is_torn, whole_verdict}
 use Rattle.tp_verdict.proofs.ByStores.{IsKept, whole_by_stores}
 use Rattle.tp_monitor.specs.Standing.{StandFor, EachStandsFor}
 use Rattle.tp_monitor.proofs.StandLemmas.{clash_more, clash_beside, stand_beside}

@@ -7,8 +7,7 @@ use Rattle.tp_eval.specs.Outcome.{over}
 use Rattle.tp_show.specs.declared.named_fact.NamedFact.{NamedFact}
 use Rattle.tp_verdict.specs.Wide.{IsExprOf}
 use Rattle.tp_verdict.specs.Verdict.{undecided}
-use Rattle.tp_verdict.specs.Trace.{known_in, known_outcome}
-use Rattle.tp_verdict.specs.Sound.{WideFits, AreAllKnown}
+use Rattle.tp_verdict.specs.Trace.{known_in, known_outcome, WideFits, AreAllKnown}
 use Rattle.tp_verdict.specs.VerdictLaws.{VerdictIsRight}
 use Rattle.tp_monitor.specs.WideOf.{NamedWide}
 use Rattle.tp_monitor.specs.Told.{told_by_trace, verdict_by}

@@ -6,7 +6,7 @@ ghost use Rattle.tp_scope.specs.Names.{names_in, names_with};
 ghost use Rattle.tp_scope.specs.Seen.{signatures_seen};
 ghost use Rattle.tp_check.specs.Answers.{AnswersCheck};
 ghost use Rattle.tp_verdict.specs.Read.{wide_tree};
-ghost use Rattle.tp_verdict.specs.Sound.{WideFits};
+ghost use Rattle.tp_verdict.specs.Trace.{WideFits};
 ghost use Rattle.tp_monitor.specs.WideOf.{wide_over, wide_of_source};
 ghost use Rattle.tp_monitor.specs.Seen.{wide_seen};
 

@@ -1,13 +1,12 @@
 -- Runs over tokens that agree at the front: a refusal rests on the tokens up to the one that it names.
 use Rattle.std.proofs.Common.{◌≡◌, ℕ, zero, suc, ◌+◌, ◌<◌, ◌≤◌, Bool, true, false, cond, ◌||◌, leb, List, [], ◌∷◌, length, drop, Ok, Err, refl, ap, subst, arith}
 use Rattle.tp_lex.specs.declared.token.Token.{Token}
-use Rattle.tp_parse.specs.declared.refusal.Refusal.{Refusal}
-use Rattle.tp_parse.specs.declared.refusal.Refusal.TheVariants.{Unexpected, Unfinished, TooDeep, NoMemory}
+use Rattle.tp_parse.specs.declared.stop.Refusal.{Refusal}
+use Rattle.tp_parse.specs.declared.stop.Refusal.TheVariants.{Unexpected, Unfinished, TooDeep, NoMemory}
 use Rattle.tp_parse.specs.declared.mark.Mark.{Mark}
 use Rattle.tp_parse.specs.declared.mark.Mark.TheVariants as m
-use Rattle.tp_parse.specs.Marks.{same, kind_mark}
+use Rattle.tp_parse.specs.Marks.{same, kind_mark, Tokens, mark, from, first_number, first_name, half_mark, mark_due, past, left_of}
 use Rattle.tp_parse.specs.Readers as readers
-use Rattle.tp_parse.specs.Input.{Tokens, mark, from, first_number, first_name, half_mark, mark_due, past, left_of}
 use Rattle.tp_parse.specs.Readers.{ReadOutcome, Reader, and_then, refuse, too_deep, sees, lower, any_name, expect, deepen}
 use Rattle.tp_parse.specs.Reading.{fits}
 use Rattle.tp_parse.proofs.Within.{Within, ok, err}

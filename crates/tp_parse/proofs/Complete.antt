@@ -14,15 +14,12 @@ use Rattle.tp_parse.specs.declared.head.Listed.{Listed}
 use Rattle.tp_parse.specs.declared.head.Listed.TheVariants as l
 use Rattle.tp_parse.specs.declared.head.Head.{Head}
 use Rattle.tp_parse.specs.declared.head.Head.TheVariants as h
-use Rattle.tp_parse.specs.Marks.{role_at, start_of, listed_close, enclosed_close, middle}
-use Rattle.tp_parse.specs.Input.{Tokens, mark, from, mark_due, past}
+use Rattle.tp_parse.specs.Marks.{role_at, start_of, listed_close, enclosed_close, middle, Tokens, mark, from, mark_due, past}
 use Rattle.tp_parse.specs.Readers.{Reader}
 use Rattle.tp_parse.specs.Head.{is_high}
-use Rattle.tp_parse.specs.Found.{Found, Operands, operand_then, operands_of, of_infix, of_index, of_chain}
+use Rattle.tp_parse.specs.Grammar.{Found, Operands, operand_then, operands_of, of_infix, of_index, of_chain, BeginsPrimary, number, truth, upper_name, lower_name, call, bare, form, empty_list, list, enclosure, if, while, repeat, for, forall, exists, Parses, atom, listed, enclosed, if_then, if_else, paired, quantified, prefixed, level, Goes, ends, left, single, right, indexed, joins, Others, no_more, one_more, Listing, no_operands, operands}
 use Rattle.tp_parse.specs.Seen.{then_operand}
 use Rattle.tp_parse.specs.Reading as r
-use Rattle.tp_parse.specs.Grammar.{BeginsPrimary, number, truth, upper_name, lower_name, call, bare, form, empty_list, list, enclosure, if, while, repeat, for, forall, exists}
-use Rattle.tp_parse.specs.Grammar.{Parses, atom, listed, enclosed, if_then, if_else, paired, quantified, prefixed, level, Goes, ends, left, single, right, indexed, joins, Others, no_more, one_more, Listing, no_operands, operands}
 use Rattle.tp_parse.proofs.Marks.{no_prefix_at, same_yes, same_no, right_is, due_begins_none}
 use Rattle.tp_parse.proofs.Shapes.{tall, taken, role_taken, shorter, passed, low_before, begins_some}
 use Rattle.tp_parse.proofs.Heads.{fine, expect_is, deepen_is, fits_is, admit_is, head_complete}

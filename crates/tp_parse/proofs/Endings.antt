@@ -9,24 +9,22 @@ use Rattle.tp_tree.specs.declared.operator.Op.{Op}
 use Rattle.tp_tree.specs.declared.operator.Grouping.{Grouping}
 use Rattle.tp_tree.specs.declared.operator.Grouping.TheVariants.{Left, Single, Right}
 use Rattle.tp_tree.specs.Levels.{chop_level, grouping, level_right_of, right_level}
-use Rattle.tp_parse.specs.declared.refusal.Refusal.{Refusal}
-use Rattle.tp_parse.specs.declared.refusal.Refusal.TheVariants.{Unfinished, TooDeep}
+use Rattle.tp_parse.specs.declared.stop.Refusal.{Refusal}
+use Rattle.tp_parse.specs.declared.stop.Refusal.TheVariants.{Unfinished, TooDeep}
 use Rattle.tp_parse.specs.declared.mark.Mark.{Mark}
 use Rattle.tp_parse.specs.declared.mark.Mark.TheVariants as m
 use Rattle.tp_parse.specs.declared.mark.Role.{Role}
 use Rattle.tp_parse.specs.declared.mark.Role.TheVariants.{Ends, Infix, Opens, Joins}
 use Rattle.tp_parse.specs.declared.head.Head.{Head}
 use Rattle.tp_parse.specs.declared.head.Listed.{Listed}
-use Rattle.tp_parse.specs.Marks.{kind_mark, role_of, role_at, level_of, start_of, listed_level, listed_close}
+use Rattle.tp_parse.specs.Marks.{kind_mark, role_of, role_at, level_of, start_of, listed_level, listed_close, Tokens, mark, mark_due, past}
 use Rattle.tp_parse.specs.Readers as readers
-use Rattle.tp_parse.specs.Input.{Tokens, mark, mark_due, past}
 use Rattle.tp_parse.specs.Readers.{ReadOutcome, Reader, and_then, ◌>>=◌, pure, sees, expect, deepen}
 use Rattle.tp_parse.specs.Head.{is_high, begins, unfit}
-use Rattle.tp_parse.specs.Found.{Found, Operands, operand_then, of_infix, of_index}
+use Rattle.tp_parse.specs.Grammar.{Found, Operands, operand_then, of_infix, of_index, BeginsPrimary, Parses, Goes, Others, Listing}
 use Rattle.tp_parse.specs.Reading as r
 use Rattle.tp_parse.specs.Reading.{goes_on, fits}
 use Rattle.tp_parse.specs.Grammar as g
-use Rattle.tp_parse.specs.Grammar.{BeginsPrimary, Parses, Goes, Others, Listing}
 use Rattle.tp_parse.proofs.Marks.{right_is}
 use Rattle.tp_parse.proofs.Heads.{bind_ok, ok_is, expect_then, fits_then}
 use Rattle.tp_parse.proofs.Sound.{Is}

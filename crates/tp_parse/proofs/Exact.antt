@@ -5,16 +5,15 @@ use Rattle.tp_lex.specs.declared.token.Word.TheVariants as word
 use Rattle.tp_lex.specs.declared.token.Symbol.TheVariants as symbol
 use Rattle.tp_tree.specs.Tree.{PhraseTree, DefinitionTree, SourceTree}
 use Rattle.tp_parse.specs.declared.mark.Mark.TheVariants as m
-use Rattle.tp_parse.specs.declared.refusal.Refusal.{Refusal}
-use Rattle.tp_parse.specs.declared.refusal.Refusal.TheVariants.{Unexpected, Unfinished, TooDeep, NoMemory}
+use Rattle.tp_parse.specs.declared.stop.Refusal.{Refusal}
+use Rattle.tp_parse.specs.declared.stop.Refusal.TheVariants.{Unexpected, Unfinished, TooDeep, NoMemory}
 use Rattle.tp_parse.specs.declared.refusal.ParseRefusal.{ParseRefusal}
 use Rattle.tp_tree.specs.Levels.{chop_level}
-use Rattle.tp_parse.specs.Input.{Tokens, mark, from, past, first_name}
+use Rattle.tp_parse.specs.Marks.{Tokens, mark, from, past, first_name}
 use Rattle.tp_parse.specs.Readers.{ReadOutcome, Reader, and_then, sees, names}
-use Rattle.tp_parse.specs.Found.{Found, limit, defined, source_of}
+use Rattle.tp_parse.specs.Grammar.{Found, limit, defined, source_of, ReadsNames, last_name, name_then, Parameters, no_parameters, parameters, Sentence, sentence, Defines, defines, Definitions, no_definition, definition_then, IsSource, source, Accepts}
 use Rattle.tp_parse.specs.Reading.{read}
 use Rattle.tp_parse.specs.Source as s
-use Rattle.tp_parse.specs.Grammar.{ReadsNames, last_name, name_then, Parameters, no_parameters, parameters, Sentence, sentence, Defines, defines, Definitions, no_definition, definition_then, IsSource, source, Accepts}
 use Rattle.tp_parse.proofs.Marks.{same_is, same_not, same_yes, same_no}
 use Rattle.tp_parse.proofs.Shapes.{taken, dropped, passed, shorter, names_shorter}
 use Rattle.tp_parse.proofs.Heads.{bind_ok, fine, ok_is, chosen, expect_then, expect_is, lower_then, lower_is, names_sound, names_complete}

@@ -15,14 +15,10 @@ use Rattle.tp_parse.specs.declared.head.Pair.TheVariants as pair
 use Rattle.tp_parse.specs.declared.mark.Enclosure.{Enclosure}
 use Rattle.tp_parse.specs.declared.mark.Enclosure.TheVariants.{Round, Curly, Size}
 use Rattle.tp_parse.specs.declared.head.Head.TheVariants as h
-use Rattle.tp_parse.specs.Marks.{same, prefix_at, role_of, role_at, level_of, comma, listed_close, enclosed_close, middle}
-use Rattle.tp_parse.specs.Input as input
-use Rattle.tp_parse.specs.Input.{Tokens, mark, from, first_number, first_name, mark_due, half_mark, past, left_of}
-use Rattle.tp_parse.specs.Found.{Found, Operands}
-use Rattle.tp_parse.specs.Grammar.{start, open_round, close_round, ReadsNames, last_name, name_then, BeginsPrimary, number, truth, upper_name, lower_name, call, bare, form, empty_list, list, enclosure, if, while, repeat, for, forall, exists}
+use Rattle.tp_parse.specs.Marks.{same, prefix_at, role_of, role_at, level_of, comma, listed_close, enclosed_close, middle, Tokens, mark, from, first_number, first_name, mark_due, half_mark, past, left_of}
+use Rattle.tp_parse.specs.Marks as input
+use Rattle.tp_parse.specs.Grammar.{Found, Operands, start, open_round, close_round, ReadsNames, last_name, name_then, BeginsPrimary, number, truth, upper_name, lower_name, call, bare, form, empty_list, list, enclosure, if, while, repeat, for, forall, exists, Parses, atom, enclosed, if_then, if_else, paired, quantified, level, Goes, ends, left, single, right, joins, Others, no_more, one_more, Listing, no_operands, operands, Parameters, no_parameters, parameters, Sentence, sentence, Defines, defines, Definitions, no_definition, definition_then}
 use Rattle.tp_parse.specs.Grammar as g
-use Rattle.tp_parse.specs.Grammar.{Parses, atom, enclosed, if_then, if_else, paired, quantified, level, Goes, ends, left, single, right, joins, Others, no_more, one_more, Listing, no_operands, operands}
-use Rattle.tp_parse.specs.Grammar.{Parameters, no_parameters, parameters, Sentence, sentence, Defines, defines, Definitions, no_definition, definition_then}
 use Rattle.tp_parse.proofs.Shapes.{begins_some, goes_shorter, others_shorter, begins_start}
 use Rattle.tp_parse.proofs.Within.{some_by_prefix, some_by_role}
 

@@ -5,18 +5,16 @@ use Rattle.tp_lex.specs.declared.token.Word.TheVariants as word
 use Rattle.tp_lex.specs.declared.token.Symbol.TheVariants as symbol
 use Rattle.tp_tree.specs.Levels.{chop_level}
 use Rattle.tp_tree.specs.Tree.{DefinitionTree, SourceTree}
-use Rattle.tp_parse.specs.declared.refusal.Refusal.{Refusal}
-use Rattle.tp_parse.specs.declared.refusal.Refusal.TheVariants.{Unfinished}
+use Rattle.tp_parse.specs.declared.stop.Refusal.{Refusal}
+use Rattle.tp_parse.specs.declared.stop.Refusal.TheVariants.{Unfinished}
 use Rattle.tp_parse.specs.declared.mark.Mark.{Mark}
 use Rattle.tp_parse.specs.declared.mark.Mark.TheVariants as m
-use Rattle.tp_parse.specs.Marks.{same, comma}
-use Rattle.tp_parse.specs.Input.{Tokens, mark, from, first_name, mark_due, past}
+use Rattle.tp_parse.specs.Marks.{same, comma, Tokens, mark, from, first_name, mark_due, past}
 use Rattle.tp_parse.specs.Readers.{Reader, and_then, sees, lower, names, expect}
-use Rattle.tp_parse.specs.Found.{Found, limit}
+use Rattle.tp_parse.specs.Grammar.{Found, limit, Parses, Parameters, Sentence, Defines, Definitions, IsSource}
 use Rattle.tp_parse.specs.Reading.{read}
 use Rattle.tp_parse.specs.Source as s
 use Rattle.tp_parse.specs.Grammar as g
-use Rattle.tp_parse.specs.Grammar.{Parses, Parameters, Sentence, Defines, Definitions, IsSource}
 use Rattle.tp_parse.proofs.Marks.{same_is}
 use Rattle.tp_parse.proofs.Heads.{chosen, names_sound, ok_is}
 use Rattle.tp_parse.proofs.Sound.{read_sound}

@@ -4,11 +4,11 @@ use Rattle.std.proofs.Common.{leb, true, false}
 use Rattle.std.proofs.lemmas.Bool.{leb-true, leb-false}
 use Rattle.std.proofs.lemmas.List.{append-nil, take-append-drop, length-take-le, take-take, take_at}
 use Rattle.tp_tree.specs.Tree.{SourceTree}
-use Rattle.tp_parse.specs.declared.refusal.Refusal.{Refusal}
-use Rattle.tp_parse.specs.declared.refusal.Refusal.TheVariants.{Unexpected, Unfinished, TooDeep, NoMemory}
+use Rattle.tp_parse.specs.declared.stop.Refusal.{Refusal}
+use Rattle.tp_parse.specs.declared.stop.Refusal.TheVariants.{Unexpected, Unfinished, TooDeep, NoMemory}
 use Rattle.tp_parse.specs.declared.refusal.ParseRefusal.{ParseRefusal}
 use Rattle.tp_parse.specs.declared.refusal.ParseRefusal.TheVariants as named_at
-use Rattle.tp_parse.specs.Input.{Tokens, past}
+use Rattle.tp_parse.specs.Marks.{Tokens, past}
 use Rattle.tp_parse.specs.Readers.{ReadOutcome}
 use Rattle.tp_parse.specs.Source as s
 use Rattle.tp_parse.specs.Grammar as g

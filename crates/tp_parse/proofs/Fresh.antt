@@ -25,13 +25,11 @@ use Rattle.tp_parse.specs.declared.head.Listed.{Listed}
 use Rattle.tp_parse.specs.declared.head.Listed.TheVariants as l
 use Rattle.tp_parse.specs.declared.head.Pair.{Pair}
 use Rattle.tp_parse.specs.declared.head.Pair.TheVariants as p
-use Rattle.tp_parse.specs.Marks.{kind_mark, same, prefix_at, prefix_of, level_before, level_of_prefix, before, role_of, role_at, start_of, comma, listed_level, listed_close, enclosed_level, enclosed_close, middle}
-use Rattle.tp_parse.specs.Input as input
-use Rattle.tp_parse.specs.Input.{Tokens, mark, from, first_number, first_name, mark_due, half_mark, past, halved, without_half}
+use Rattle.tp_parse.specs.Marks.{kind_mark, same, prefix_at, prefix_of, level_before, level_of_prefix, before, role_of, role_at, start_of, comma, listed_level, listed_close, enclosed_level, enclosed_close, middle, Tokens, mark, from, first_number, first_name, mark_due, half_mark, past, halved, without_half}
+use Rattle.tp_parse.specs.Marks as input
 use Rattle.tp_parse.specs.Head.{begins, is_nothing}
-use Rattle.tp_parse.specs.Found.{Found, no_operand, operand_then, of_atom, of_operands, of_enclosed, of_choice, of_pair, of_exists, of_prefix}
+use Rattle.tp_parse.specs.Grammar.{Found, no_operand, operand_then, of_atom, of_operands, of_enclosed, of_choice, of_pair, of_exists, of_prefix, open_round, BeginsPrimary, Parses, Goes, Others, Listing}
 use Rattle.tp_parse.specs.Grammar as g
-use Rattle.tp_parse.specs.Grammar.{open_round, BeginsPrimary, Parses, Goes, Others, Listing}
 use Rattle.tp_parse.proofs.Marks.{same_yes, same_no}
 use Rattle.tp_parse.proofs.Extended.{Stops, role_stopped}
 

@@ -9,8 +9,7 @@ use Rattle.tp_parse.specs.declared.mark.Mark.TheVariants as m
 use Rattle.tp_parse.specs.declared.mark.Start.{Start}
 use Rattle.tp_parse.specs.declared.mark.Start.TheVariants as s
 use Rattle.tp_parse.specs.declared.head.Head.{Head}
-use Rattle.tp_parse.specs.Marks.{start_of}
-use Rattle.tp_parse.specs.Input.{Tokens, past}
+use Rattle.tp_parse.specs.Marks.{start_of, Tokens, past}
 use Rattle.tp_parse.specs.Grammar as g
 use Rattle.tp_parse.specs.Grammar.{ReadsNames, BeginsPrimary}
 

@@ -2,15 +2,14 @@
 use Rattle.std.proofs.Common.{◌≡◌, ℕ, zero, suc, ◌<◌, ◌≤◌, Bool, true, false, cond, ◌||◌, ◌⊎◌, inl, inr, leb, List, [], ◌∷◌, ◌++◌, length, drop, Ok, Err, refl, sym, ap, subst, ◌∙◌, arith, append_assoc}
 use Rattle.std.proofs.lemmas.Bool.{leb-true, le-leb}
 use Rattle.tp_lex.specs.declared.token.Symbol.TheVariants as symbol
-use Rattle.tp_parse.specs.declared.refusal.Refusal.{Refusal}
+use Rattle.tp_parse.specs.declared.stop.Refusal.{Refusal}
 use Rattle.tp_parse.specs.declared.mark.Mark.{Mark}
 use Rattle.tp_parse.specs.declared.mark.Mark.TheVariants as m
 use Rattle.tp_parse.specs.declared.mark.Start.{Start}
 use Rattle.tp_parse.specs.declared.mark.Start.TheVariants as s
 use Rattle.tp_parse.specs.declared.head.Head.{Head}
-use Rattle.tp_parse.specs.Marks.{same, start_of, comma}
+use Rattle.tp_parse.specs.Marks.{same, start_of, comma, Tokens, mark, mark_due, past, first_name}
 use Rattle.tp_parse.specs.Readers as readers
-use Rattle.tp_parse.specs.Input.{Tokens, mark, mark_due, past, first_name}
 use Rattle.tp_parse.specs.Readers.{ReadOutcome, Reader, and_then, ◌>>=◌, pure, sees, taken_name, lower, any_name, names, names_from, expect, deepen}
 use Rattle.tp_parse.specs.Head.{name_or_call, counter, head_by, is_high, admit}
 use Rattle.tp_parse.specs.Reading.{fits}

@@ -13,10 +13,9 @@ use Rattle.tp_parse.specs.declared.head.Listed.{Listed}
 use Rattle.tp_parse.specs.declared.head.Listed.TheVariants as listed
 use Rattle.tp_parse.specs.declared.head.Pair.{Pair}
 use Rattle.tp_parse.specs.declared.head.Pair.TheVariants as pair
-use Rattle.tp_parse.specs.Input.{Tokens, from}
-use Rattle.tp_parse.specs.Found.{Found, Operands, atom_kind, listed_kind, enclosed_tree, pair_kind, prefixed_kind, limit}
+use Rattle.tp_parse.specs.Marks.{Tokens, from}
+use Rattle.tp_parse.specs.Grammar.{Found, Operands, atom_kind, listed_kind, enclosed_tree, pair_kind, prefixed_kind, limit, Parses, Goes, Others, Listing, Sentence, Defines, Definitions, IsSource, Accepts}
 use Rattle.tp_parse.specs.Grammar as g
-use Rattle.tp_parse.specs.Grammar.{Parses, Goes, Others, Listing, Sentence, Defines, Definitions, IsSource, Accepts}
 
 atom_under : (x : Atom) → under (atom_kind x) ≤ 0
 atom_under (atom.Number n) = omega arith

@@ -3,10 +3,9 @@ use Rattle.std.proofs.Common.{◌≡◌, ◌≢◌, ◌⊎◌, inl, inr, ℕ, ma
 use Rattle.tp_lex.specs.declared.token.Word.TheVariants as word
 use Rattle.tp_tree.specs.Tree.{DefinitionTree, SourceTree}
 use Rattle.tp_parse.specs.declared.mark.Mark.TheVariants as m
-use Rattle.tp_parse.specs.Input.{Tokens, mark, from, first_name, past}
-use Rattle.tp_parse.specs.Found.{Found, defined, source_of}
+use Rattle.tp_parse.specs.Marks.{Tokens, mark, from, first_name, past}
+use Rattle.tp_parse.specs.Grammar.{Found, defined, source_of, ReadsNames, Parses, Parameters, Sentence, Defines, Definitions, IsSource}
 use Rattle.tp_parse.specs.Grammar as g
-use Rattle.tp_parse.specs.Grammar.{ReadsNames, Parses, Parameters, Sentence, Defines, Definitions, IsSource}
 use Rattle.tp_parse.proofs.Heads.{ok_is}
 use Rattle.tp_parse.proofs.Complete.{read_complete}
 

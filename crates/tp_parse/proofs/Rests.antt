@@ -16,12 +16,11 @@ use Rattle.tp_parse.specs.declared.head.Head.{Head}
 use Rattle.tp_parse.specs.declared.head.Head.TheVariants as h
 use Rattle.tp_parse.specs.declared.head.Atom.TheVariants as atom
 use Rattle.tp_parse.specs.declared.head.Listed.TheVariants as listed
-use Rattle.tp_parse.specs.Marks.{same, kind_mark, prefix_at, role_at, start_of, comma, listed_level, listed_close, enclosed_level, enclosed_close, middle}
+use Rattle.tp_parse.specs.Marks.{same, kind_mark, prefix_at, role_at, start_of, comma, listed_level, listed_close, enclosed_level, enclosed_close, middle, Tokens, mark, from, first_number, first_name, mark_due, half_mark}
 use Rattle.tp_parse.specs.Readers as readers
-use Rattle.tp_parse.specs.Input.{Tokens, mark, from, first_number, first_name, mark_due, half_mark}
 use Rattle.tp_parse.specs.Readers.{ReadOutcome, Reader, and_then, ◌>>=◌, pure, sees, lower, any_name, names, names_from, expect, deepen}
 use Rattle.tp_parse.specs.Head.{name_or_call, counter, head_by, is_high, admit, begins, unfit}
-use Rattle.tp_parse.specs.Found.{Found, Operands, operands_of, of_choice, of_choice_else, of_infix, of_index, of_chain, of_pair, of_prefix, limit, defined, source_of}
+use Rattle.tp_parse.specs.Grammar.{Found, Operands, operands_of, of_choice, of_choice_else, of_infix, of_index, of_chain, of_pair, of_prefix, limit, defined, source_of, Accepts}
 use Rattle.tp_parse.specs.Seen.{then_operand}
 use Rattle.tp_parse.specs.Reading as r
 use Rattle.tp_parse.specs.Reading.{goes_on, fits}
@@ -32,8 +31,7 @@ use Rattle.tp_parse.proofs.Within.{Within, left_over}
 use Rattle.tp_parse.proofs.Sound.{Is, turn_fewer, read_sound}
 use Rattle.tp_parse.specs.Source as source
 use Rattle.tp_parse.proofs.Exact.{source_complete}
-use Rattle.tp_parse.specs.Grammar.{Accepts}
-use Rattle.tp_parse.specs.declared.refusal.Refusal.TheVariants.{Unexpected, TooDeep}
+use Rattle.tp_parse.specs.declared.stop.Refusal.TheVariants.{Unexpected, TooDeep}
 use Rattle.tp_lex.specs.declared.token.Token.{Token}
 use Rattle.tp_parse.proofs.Alike.{Agrees, unseen, ended, agreed, Alike, beyond, goes, unexpected, deep, both, same_first, refused_alike, stays_alike, took_alike, passed_alike, chosen_alike, after_take, expected_alike, deepened_alike, fitted_alike, saw_alike, lowered_alike, any_named_alike}
 

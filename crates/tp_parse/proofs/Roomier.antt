@@ -7,7 +7,7 @@ use Rattle.tp_lex.specs.declared.token.Symbol.TheVariants as symbol
 use Rattle.tp_tree.specs.declared.operator.Op.{Op}
 use Rattle.tp_tree.specs.Levels.{chop_level, right_level}
 use Rattle.tp_tree.specs.Tree.{DefinitionTree, SourceTree}
-use Rattle.tp_parse.specs.declared.refusal.Refusal.TheVariants.{TooDeep}
+use Rattle.tp_parse.specs.declared.stop.Refusal.TheVariants.{TooDeep}
 use Rattle.tp_parse.specs.declared.mark.Mark.{Mark}
 use Rattle.tp_parse.specs.declared.mark.Mark.TheVariants as m
 use Rattle.tp_parse.specs.declared.mark.Role.{Role}
@@ -16,19 +16,16 @@ use Rattle.tp_parse.specs.declared.mark.Start.{Start}
 use Rattle.tp_parse.specs.declared.mark.Start.TheVariants as s
 use Rattle.tp_parse.specs.declared.head.Head.{Head}
 use Rattle.tp_parse.specs.declared.head.Head.TheVariants as h
-use Rattle.tp_parse.specs.Marks.{before, prefix_at, role_at, start_of, comma, listed_level, listed_close, enclosed_level, enclosed_close, middle}
-use Rattle.tp_parse.specs.Marks.{same as is_mark}
+use Rattle.tp_parse.specs.Marks.{before, prefix_at, role_at, start_of, comma, listed_level, listed_close, enclosed_level, enclosed_close, middle, same as is_mark, Tokens, mark, from, mark_due}
 use Rattle.tp_parse.specs.Readers as readers
-use Rattle.tp_parse.specs.Input.{Tokens, mark, from, mark_due}
 use Rattle.tp_parse.specs.Readers.{ReadOutcome, Reader, and_then, ◌>>=◌, pure, refuse, sees, expect, deepen}
 use Rattle.tp_parse.specs.Head.{is_high, is_nothing, admit, begins, unfit}
-use Rattle.tp_parse.specs.Found.{Found, Operands, operands_of, limit, source_of}
+use Rattle.tp_parse.specs.Grammar.{Found, Operands, operands_of, limit, source_of, Sentence, Defines, Definitions, IsSource}
 use Rattle.tp_parse.specs.Seen.{then_operand}
 use Rattle.tp_parse.specs.Reading as r
 use Rattle.tp_parse.specs.Reading.{goes_on, fits}
 use Rattle.tp_parse.specs.Source as source
 use Rattle.tp_parse.specs.Grammar as g
-use Rattle.tp_parse.specs.Grammar.{Sentence, Defines, Definitions, IsSource}
 use Rattle.tp_parse.proofs.Marks.{same_yes, same_no, no_prefix_at, start_plain}
 use Rattle.tp_parse.proofs.Heads.{lower_is, expect_is}
 use Rattle.tp_parse.proofs.Complete.{read_complete}

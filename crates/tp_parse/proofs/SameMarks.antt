@@ -11,12 +11,10 @@ use Rattle.tp_parse.specs.declared.head.Atom.{Atom}
 use Rattle.tp_parse.specs.declared.head.Listed.{Listed}
 use Rattle.tp_parse.specs.declared.head.Pair.{Pair}
 use Rattle.tp_parse.specs.declared.head.Head.TheVariants as h
-use Rattle.tp_parse.specs.Marks.{kind_mark, same, prefix_at, role_at, start_of, comma, listed_level, listed_close, middle}
-use Rattle.tp_parse.specs.Input.{Tokens, mark, from, half_mark, mark_due, without_half, past, left_of}
+use Rattle.tp_parse.specs.Marks.{kind_mark, same, prefix_at, role_at, start_of, comma, listed_level, listed_close, middle, Tokens, mark, from, half_mark, mark_due, without_half, past, left_of}
 use Rattle.tp_parse.specs.Readers.{mark_without_half}
-use Rattle.tp_parse.specs.Found.{Found, found, Operands, operands_of, of_infix, of_index}
+use Rattle.tp_parse.specs.Grammar.{Found, found, Operands, operands_of, of_infix, of_index, start, ReadsNames, BeginsPrimary, Parses, Goes, Others, Listing, Parameters, Sentence, Defines, Definitions, IsSource}
 use Rattle.tp_parse.specs.Grammar as g
-use Rattle.tp_parse.specs.Grammar.{start, ReadsNames, BeginsPrimary, Parses, Goes, Others, Listing, Parameters, Sentence, Defines, Definitions, IsSource}
 
 -- the same marks in the same order
 pub data SameMarks : Tokens → Tokens → Type 0 where

@@ -6,11 +6,8 @@ use Rattle.tp_parse.specs.declared.mark.Role.{Role}
 use Rattle.tp_parse.specs.declared.mark.Role.TheVariants.{Ends}
 use Rattle.tp_parse.specs.declared.mark.Start.TheVariants as s
 use Rattle.tp_parse.specs.declared.head.Head.{Head}
-use Rattle.tp_parse.specs.Marks.{role_at, before, start_of, same}
-use Rattle.tp_parse.specs.Input.{Tokens, mark, mark_due, past, left_of}
-use Rattle.tp_parse.specs.Found.{Found, Operands}
-use Rattle.tp_parse.specs.Grammar.{ReadsNames, last_name, name_then, BeginsPrimary, number, truth, upper_name, lower_name, call, bare, form, empty_list, list, enclosure, if, while, repeat, for, forall, exists}
-use Rattle.tp_parse.specs.Grammar.{Parses, atom, listed, enclosed, if_then, if_else, paired, quantified, prefixed, level, Goes, ends, left, single, right, indexed, joins, Others, no_more, one_more, Listing, no_operands, operands}
+use Rattle.tp_parse.specs.Marks.{role_at, before, start_of, same, Tokens, mark, mark_due, past, left_of}
+use Rattle.tp_parse.specs.Grammar.{Found, Operands, ReadsNames, last_name, name_then, BeginsPrimary, number, truth, upper_name, lower_name, call, bare, form, empty_list, list, enclosure, if, while, repeat, for, forall, exists, Parses, atom, listed, enclosed, if_then, if_else, paired, quantified, prefixed, level, Goes, ends, left, single, right, indexed, joins, Others, no_more, one_more, Listing, no_operands, operands}
 use Rattle.tp_parse.proofs.Marks.{prefix_level_is, start_plain, BeginsNone}
 
 mutual

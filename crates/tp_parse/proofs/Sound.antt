@@ -13,15 +13,13 @@ use Rattle.tp_parse.specs.declared.mark.Role.{Role}
 use Rattle.tp_parse.specs.declared.mark.Role.TheVariants.{Ends, Infix, Opens, Joins}
 use Rattle.tp_parse.specs.declared.head.Head.{Head}
 use Rattle.tp_parse.specs.declared.head.Head.TheVariants as h
-use Rattle.tp_parse.specs.Marks.{role_at, prefix_at, same, start_of, comma, listed_level, listed_close, enclosed_level, enclosed_close, middle}
-use Rattle.tp_parse.specs.Input.{Tokens, mark, from, mark_due, past}
+use Rattle.tp_parse.specs.Marks.{role_at, prefix_at, same, start_of, comma, listed_level, listed_close, enclosed_level, enclosed_close, middle, Tokens, mark, from, mark_due, past}
 use Rattle.tp_parse.specs.Readers.{Reader, and_then, ◌>>=◌, pure, sees}
 use Rattle.tp_parse.specs.Head.{head_by}
-use Rattle.tp_parse.specs.Found.{Found, Operands, no_operand, operand_then, operands_of, of_atom, of_operands, of_enclosed, of_choice, of_choice_else, of_pair, of_exists, of_prefix, of_infix, of_index, of_chain}
+use Rattle.tp_parse.specs.Grammar.{Found, Operands, no_operand, operand_then, operands_of, of_atom, of_operands, of_enclosed, of_choice, of_choice_else, of_pair, of_exists, of_prefix, of_infix, of_index, of_chain, BeginsPrimary, Parses, atom, listed, enclosed, if_then, if_else, paired, quantified, prefixed, level, Goes, ends, left, single, right, indexed, joins, Others, no_more, one_more, Listing, no_operands, operands}
 use Rattle.tp_parse.specs.Seen.{then_operand}
 use Rattle.tp_parse.specs.Reading as r
 use Rattle.tp_parse.specs.Reading.{goes_on}
-use Rattle.tp_parse.specs.Grammar.{BeginsPrimary, Parses, atom, listed, enclosed, if_then, if_else, paired, quantified, prefixed, level, Goes, ends, left, single, right, indexed, joins, Others, no_more, one_more, Listing, no_operands, operands}
 use Rattle.tp_parse.proofs.Marks.{same_is, same_not, right_is}
 use Rattle.tp_parse.proofs.Shapes.{taken, role_end, role_taken, shorter, passed}
 use Rattle.tp_parse.proofs.Heads.{bind_ok, fine, ok_is, chosen, chosen_at, expect_then, deepen_then, fits_then, admit_then, head_sound}

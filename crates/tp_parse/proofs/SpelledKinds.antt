@@ -25,11 +25,9 @@ use Rattle.tp_parse.specs.declared.mark.Start.TheVariants as s
 use Rattle.tp_parse.specs.declared.head.Pair.{Pair}
 use Rattle.tp_parse.specs.declared.head.Pair.TheVariants as pair
 use Rattle.tp_parse.specs.declared.head.Head.TheVariants as h
-use Rattle.tp_parse.specs.Marks.{kind_mark, middle, prefix_at, role_of, role_at, level_of, start_of}
-use Rattle.tp_parse.specs.Input.{Tokens, mark, mark_due, half_mark, first_name, past}
-use Rattle.tp_parse.specs.Found.{Found, prefixed_kind, pair_kind}
+use Rattle.tp_parse.specs.Marks.{kind_mark, middle, prefix_at, role_of, role_at, level_of, start_of, Tokens, mark, mark_due, half_mark, first_name, past}
+use Rattle.tp_parse.specs.Grammar.{Found, prefixed_kind, pair_kind, BeginsPrimary, Parses, open_round}
 use Rattle.tp_parse.specs.Grammar as g
-use Rattle.tp_parse.specs.Grammar.{BeginsPrimary, Parses, open_round}
 use Rattle.tp_parse.specs.Spelled.{token_kinds, op_kind, bare_kind, form_kind, open_kind, close_kind, operand_kinds, more_operands, HasTwo, HasName}
 use Rattle.tp_parse.proofs.SpelledTokens.{next_is, next_mark, mark_next, passed_whole, opened_is, EndsBefore, lower_ends, role_ends, ReadAs, OpensAs, stays}
 use Rattle.tp_parse.proofs.SpelledParts.{grammar_level, is_left, IsOperand, AreOperands, IsKind, KindReads, others_are, listing_is, names_are}

@@ -10,11 +10,9 @@ use Rattle.tp_tree.specs.Levels.{kind_level}
 use Rattle.tp_tree.specs.Places.{unplaced, unplaced_kind, unplaced_all}
 use Rattle.tp_parse.specs.declared.mark.Mark.TheVariants as m
 use Rattle.tp_parse.specs.declared.mark.Enclosure.TheVariants as enclosure
-use Rattle.tp_parse.specs.Marks.{kind_mark, start_of, comma}
-use Rattle.tp_parse.specs.Input.{Tokens, mark, first_name, half_mark, past}
-use Rattle.tp_parse.specs.Found.{Operands, no_operand, operand_then}
+use Rattle.tp_parse.specs.Marks.{kind_mark, start_of, comma, Tokens, mark, first_name, half_mark, past}
+use Rattle.tp_parse.specs.Grammar.{Operands, no_operand, operand_then, Parses, Others, Listing, ReadsNames, open_round}
 use Rattle.tp_parse.specs.Grammar as g
-use Rattle.tp_parse.specs.Grammar.{Parses, Others, Listing, ReadsNames, open_round}
 use Rattle.tp_parse.specs.Spelled.{token_kinds, comma_kind, open_kind, close_kind, variable_kind, more_names, operand_kinds, more_operands, operands_kinds, kind_kinds}
 use Rattle.tp_parse.proofs.SpelledTokens.{next_is, next_mark, mark_next, passed_whole, EndsBefore, lower_ends, role_ends, ReadAs, OpensAs, raise, begins_above}
 

@@ -8,10 +8,9 @@ use Rattle.tp_tree.specs.Tree as t
 use Rattle.tp_tree.specs.Tree.{PhraseTree, phrase, KindTree, PhraseTrees, no_phrase, phrase_then, DefinitionTree, SourceTree}
 use Rattle.tp_tree.specs.Places.{unplaced, unplaced_definition}
 use Rattle.tp_parse.specs.declared.mark.Mark.TheVariants as m
-use Rattle.tp_parse.specs.Input.{Tokens, past}
-use Rattle.tp_parse.specs.Found.{Found, source_of}
+use Rattle.tp_parse.specs.Marks.{Tokens, past}
+use Rattle.tp_parse.specs.Grammar.{Found, source_of, Parses, Sentence, Parameters, Defines, Definitions, IsSource, Accepts}
 use Rattle.tp_parse.specs.Grammar as g
-use Rattle.tp_parse.specs.Grammar.{Parses, Sentence, Parameters, Defines, Definitions, IsSource, Accepts}
 use Rattle.tp_parse.specs.Spelled.{token_kinds, close_kind, open_kind, phrase_kinds, name_kinds, definition_kinds, definitions_kinds, IsWhole, IsWholeKind, AreWhole, AreWholeBodies, SpellingsAreReadBack}
 use Rattle.tp_parse.proofs.Exact.{accepted_read}
 use Rattle.tp_parse.proofs.OneTree.{source_one}

@@ -19,11 +19,9 @@ use Rattle.tp_parse.specs.declared.head.Listed.TheVariants as listed
 use Rattle.tp_parse.specs.declared.head.Pair.{Pair}
 use Rattle.tp_parse.specs.declared.head.Pair.TheVariants as pair
 use Rattle.tp_parse.specs.declared.head.Head.TheVariants as h
-use Rattle.tp_parse.specs.Marks.{role_of, role_at, level_of}
-use Rattle.tp_parse.specs.Input.{Tokens, mark, from}
-use Rattle.tp_parse.specs.Found.{Found, Operands, atom_kind, listed_kind, enclosed_tree, pair_kind, prefixed_kind}
+use Rattle.tp_parse.specs.Marks.{role_of, role_at, level_of, Tokens, mark, from}
+use Rattle.tp_parse.specs.Grammar.{Found, Operands, atom_kind, listed_kind, enclosed_tree, pair_kind, prefixed_kind, ReadsNames, BeginsPrimary, Parses, Goes, Others, Listing, Sentence, Defines, Definitions, IsSource, Accepts}
 use Rattle.tp_parse.specs.Grammar as g
-use Rattle.tp_parse.specs.Grammar.{ReadsNames, BeginsPrimary, Parses, Goes, Others, Listing, Sentence, Defines, Definitions, IsSource, Accepts}
 use Rattle.tp_parse.specs.Spelled.{HasTwo, HasName, IsWhole, IsWholeKind, AreWhole, AreWholeBodies, SourcesAreWhole}
 
 atom_whole : (x : Atom) → IsWholeKind (atom_kind x)

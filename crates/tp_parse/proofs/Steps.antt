@@ -1,12 +1,11 @@
 -- Reading at a level by the level below it, and turns of a reader beside a loop that counts up.
 use Rattle.std.proofs.Common.{◌≡◌, ℕ, zero, suc, ◌+◌, ◌-◌, ◌<◌, ◌≤◌, refl, ap, subst, ◌∙◌, arith}
 use Rattle.std.proofs.Common.{Ok, Err, Some, None, [], ◌∷◌}
-use Rattle.tp_parse.specs.Marks.{before, prefix_at, role_at}
+use Rattle.tp_parse.specs.Marks.{before, prefix_at, role_at, Tokens, mark, from}
 use Rattle.tp_parse.specs.declared.mark.Role.TheVariants.{Ends}
-use Rattle.tp_parse.specs.declared.refusal.Refusal.{Refusal}
-use Rattle.tp_parse.specs.Input.{Tokens, mark, from}
+use Rattle.tp_parse.specs.declared.stop.Refusal.{Refusal}
 use Rattle.tp_parse.specs.Readers.{Reader}
-use Rattle.tp_parse.specs.Found.{Found}
+use Rattle.tp_parse.specs.Grammar.{Found}
 use Rattle.tp_parse.specs.Reading.{read, levels, level, level_by, first, first_by, operations, go, turn}
 use Rattle.tp_parse.proofs.Marks.{no_prefix_at, no_prefix_at_zero, some_prefix_at}
 

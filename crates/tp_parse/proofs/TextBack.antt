@@ -11,9 +11,8 @@ use Rattle.tp_lex.proofs.LawLemmas.{one_list}
 use Rattle.tp_tree.specs.declared.phrase.Source.{Source}
 use Rattle.tp_tree.specs.Read.{source_tree}
 use Rattle.tp_parse.specs.declared.refusal.ParseRefusal.{ParseRefusal}
-use Rattle.tp_parse.specs.Input.{Tokens}
-use Rattle.tp_parse.specs.Found.{limit}
-use Rattle.tp_parse.specs.Grammar.{Accepts}
+use Rattle.tp_parse.specs.Marks.{Tokens}
+use Rattle.tp_parse.specs.Grammar.{limit, Accepts}
 use Rattle.tp_parse.specs.Source.{parse_outcome, IsOutcome}
 use Rattle.tp_parse.specs.Spelled.{ReadsBack}
 use Rattle.tp_parse.proofs.Exact.{read_accepted}

@@ -21,7 +21,7 @@ use Rattle.tp_lex.specs.Tokens.{ReadsTokens, Whole, whole, gap, lexeme}
 use Rattle.tp_lex.proofs.PieceLemmas.{takes, some_name}
 use Rattle.tp_lex.proofs.SpellingLemmas.{some}
 use Rattle.tp_lex.proofs.LawLemmas.{places_count}
-use Rattle.tp_parse.specs.Input.{Tokens}
+use Rattle.tp_parse.specs.Marks.{Tokens}
 use Rattle.tp_parse.specs.Spelled.{token_kinds}
 use Rattle.tp_parse.proofs.TextTokens.{IsRead, space_read}
 

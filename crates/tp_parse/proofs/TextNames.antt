@@ -30,11 +30,9 @@ use Rattle.tp_parse.specs.declared.head.Pair.{Pair}
 use Rattle.tp_parse.specs.declared.head.Pair.TheVariants as pair
 use Rattle.tp_parse.specs.declared.head.Head.{Head}
 use Rattle.tp_parse.specs.declared.head.Head.TheVariants as h
-use Rattle.tp_parse.specs.Marks.{same, start_of, kind_mark}
-use Rattle.tp_parse.specs.Input.{Tokens, mark, from, first_name, first_number, mark_due, past, left_of, without_half, kind_name, kind_number}
-use Rattle.tp_parse.specs.Found.{Found, Operands, atom_kind, listed_kind, enclosed_tree, pair_kind, prefixed_kind}
+use Rattle.tp_parse.specs.Marks.{same, start_of, kind_mark, Tokens, mark, from, first_name, first_number, mark_due, past, left_of, without_half, kind_name, kind_number}
+use Rattle.tp_parse.specs.Grammar.{Found, Operands, atom_kind, listed_kind, enclosed_tree, pair_kind, prefixed_kind, ReadsNames, BeginsPrimary, Parses, Goes, Others, Listing, Parameters, Sentence, Defines, Definitions, IsSource, Accepts}
 use Rattle.tp_parse.specs.Grammar as g
-use Rattle.tp_parse.specs.Grammar.{ReadsNames, BeginsPrimary, Parses, Goes, Others, Listing, Parameters, Sentence, Defines, Definitions, IsSource, Accepts}
 use Rattle.tp_parse.specs.SpelledText.{IsVariableText, IsLowerText, IsNumeral, AreVariableTexts, IsSpellable, IsSpellableKind, AreSpellable, IsSpellableDefinition, AreSpellableDefinitions, SourcesAreSpellable}
 use Rattle.tp_parse.proofs.HeadTokens.{mark_of_start, started, head_left}
 

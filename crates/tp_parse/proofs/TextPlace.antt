@@ -15,8 +15,7 @@ use Rattle.tp_lex.specs.Tokens.{AreTokens}
 use Rattle.tp_tree.specs.Tree.{SourceTree}
 use Rattle.tp_parse.specs.declared.refusal.ParseRefusal.{ParseRefusal}
 use Rattle.tp_parse.specs.declared.refusal.ParseRefusal.TheVariants.{Unexpected, Unfinished, TooDeep, NoMemory}
-use Rattle.tp_parse.specs.Marks.{kind_mark}
-use Rattle.tp_parse.specs.Input.{Tokens}
+use Rattle.tp_parse.specs.Marks.{kind_mark, Tokens}
 use Rattle.tp_parse.specs.Spelled.{token_kinds}
 use Rattle.tp_parse.specs.SpelledText.{IsVariableText}
 use Rattle.tp_parse.specs.Grammar.{IsSource}

@@ -5,8 +5,8 @@ use Rattle.tp_lex.specs.declared.token.Symbol.TheVariants as symbol
 use Rattle.tp_tree.specs.Tree.{DefinitionTree, SourceTree}
 use Rattle.tp_tree.specs.declared.operator.Op.{Op}
 use Rattle.tp_tree.specs.Levels.{chop_level, right_level}
-use Rattle.tp_parse.specs.declared.refusal.Refusal.{Refusal}
-use Rattle.tp_parse.specs.declared.refusal.Refusal.TheVariants.{Unexpected, Unfinished, TooDeep, NoMemory}
+use Rattle.tp_parse.specs.declared.stop.Refusal.{Refusal}
+use Rattle.tp_parse.specs.declared.stop.Refusal.TheVariants.{Unexpected, Unfinished, TooDeep, NoMemory}
 use Rattle.tp_parse.specs.declared.mark.Mark.{Mark}
 use Rattle.tp_parse.specs.declared.mark.Mark.TheVariants as m
 use Rattle.tp_parse.specs.declared.mark.Role.{Role}
@@ -17,12 +17,11 @@ use Rattle.tp_parse.specs.declared.head.Head.{Head}
 use Rattle.tp_parse.specs.declared.head.Head.TheVariants as h
 use Rattle.tp_parse.specs.declared.head.Atom.TheVariants as atom
 use Rattle.tp_parse.specs.declared.head.Listed.TheVariants as listed
-use Rattle.tp_parse.specs.Marks.{same, prefix_at, role_at, start_of, comma, listed_level, listed_close, enclosed_level, enclosed_close, middle}
+use Rattle.tp_parse.specs.Marks.{same, prefix_at, role_at, start_of, comma, listed_level, listed_close, enclosed_level, enclosed_close, middle, Tokens, mark, from, mark_due}
 use Rattle.tp_parse.specs.Readers as readers
-use Rattle.tp_parse.specs.Input.{Tokens, mark, from, mark_due}
 use Rattle.tp_parse.specs.Readers.{ReadOutcome, Reader, and_then, ◌>>=◌, pure, refuse, too_deep, sees, take, taken_name, lower, any_name, names, names_from, expect, deepen}
 use Rattle.tp_parse.specs.Head.{name_or_call, counter, head_by, is_high, admit, begins, unfit}
-use Rattle.tp_parse.specs.Found.{Found, Operands, operands_of, of_choice, of_choice_else, of_infix, of_index, of_prefix, limit, defined, source_of}
+use Rattle.tp_parse.specs.Grammar.{Found, Operands, operands_of, of_choice, of_choice_else, of_infix, of_index, of_prefix, limit, defined, source_of}
 use Rattle.tp_parse.specs.Seen.{then_operand}
 use Rattle.tp_parse.specs.Reading as r
 use Rattle.tp_parse.specs.Reading.{fits, goes_on}

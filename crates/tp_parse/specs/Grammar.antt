@@ -1,34 +1,137 @@
 -- The grammar. In `Parses k ts a rest` the tokens ts begin with the phrase a of level k, and rest
 -- is what follows it. Levels count up from the primaries, 0, to `;`, 10. A phrase, a list and a
 -- chain reach as far to the right as the next token lets them.
-use Rattle.std.specs.Prelude.{◌≡◌, ◌≢◌, ℕ, suc, ◌-◌, max, ◌≤◌, ◌⊎◌, List, [], ◌∷◌, drop, Some}
-use Rattle.tp_lex.specs.declared.token.Word.TheVariants as word
-use Rattle.tp_lex.specs.declared.token.Symbol.TheVariants as symbol
+use Rattle.std.specs.Prelude.{ℕ, ◌+◌, max, List, [], ◌∷◌, ◌≡◌, ◌≢◌, suc, ◌-◌, ◌≤◌, ◌⊎◌, drop, Some}
 use Rattle.tp_tree.specs.declared.operator.Op.{Op}
-use Rattle.tp_tree.specs.declared.operator.Grouping.TheVariants.{Left, Single, Right}
-use Rattle.tp_tree.specs.Levels.{chop_level, grouping}
-use Rattle.tp_tree.specs.declared.operator.Bare.{Bare}
-use Rattle.tp_tree.specs.declared.operator.Form.{Form}
-use Rattle.tp_tree.specs.Tree.{DefinitionTree, SourceTree}
-use Rattle.tp_parse.specs.declared.mark.Mark.{Mark}
-use Rattle.tp_parse.specs.declared.mark.Mark.TheVariants as m
+use Rattle.tp_tree.specs.Tree as t
+use Rattle.tp_tree.specs.Tree.{PhraseTree, phrase, KindTree, PhraseTrees, no_phrase, phrases_of, DefinitionTree, SourceTree}
 use Rattle.tp_parse.specs.declared.mark.Prefix.{Prefix}
+use Rattle.tp_parse.specs.declared.mark.Prefix.TheVariants as prefix
 use Rattle.tp_parse.specs.declared.mark.Enclosure.{Enclosure}
-use Rattle.tp_parse.specs.declared.mark.Role.TheVariants.{Ends, Infix, Opens, Joins}
-use Rattle.tp_parse.specs.declared.mark.Start.{Start}
-use Rattle.tp_parse.specs.declared.mark.Start.TheVariants as s
+use Rattle.tp_parse.specs.declared.mark.Enclosure.TheVariants as e
 use Rattle.tp_parse.specs.declared.head.Atom.{Atom}
 use Rattle.tp_parse.specs.declared.head.Atom.TheVariants as a
 use Rattle.tp_parse.specs.declared.head.Listed.{Listed}
 use Rattle.tp_parse.specs.declared.head.Listed.TheVariants as l
 use Rattle.tp_parse.specs.declared.head.Pair.{Pair}
 use Rattle.tp_parse.specs.declared.head.Pair.TheVariants as p
+use Rattle.tp_lex.specs.declared.token.Word.TheVariants as word
+use Rattle.tp_lex.specs.declared.token.Symbol.TheVariants as symbol
+use Rattle.tp_tree.specs.declared.operator.Grouping.TheVariants.{Left, Single, Right}
+use Rattle.tp_tree.specs.Levels.{chop_level, grouping}
+use Rattle.tp_tree.specs.declared.operator.Bare.{Bare}
+use Rattle.tp_tree.specs.declared.operator.Form.{Form}
+use Rattle.tp_parse.specs.declared.mark.Mark.{Mark}
+use Rattle.tp_parse.specs.declared.mark.Mark.TheVariants as m
+use Rattle.tp_parse.specs.declared.mark.Role.TheVariants.{Ends, Infix, Opens, Joins}
+use Rattle.tp_parse.specs.declared.mark.Start.{Start}
+use Rattle.tp_parse.specs.declared.mark.Start.TheVariants as s
 use Rattle.tp_parse.specs.declared.head.Head.{Head}
 use Rattle.tp_parse.specs.declared.head.Head.TheVariants as h
-use Rattle.tp_parse.specs.Marks.{prefix_at, role_at, start_of, comma, listed_level, listed_close, enclosed_level, enclosed_close, middle}
-use Rattle.tp_parse.specs.Input as input
-use Rattle.tp_parse.specs.Input.{Tokens, mark, from, first_name, mark_due, past}
-use Rattle.tp_parse.specs.Found.{Found, Operands, no_operand, operand_then, of_atom, of_operands, of_enclosed, of_choice, of_choice_else, of_pair, of_exists, of_prefix, of_infix, of_index, of_chain, limit, defined, source_of}
+use Rattle.tp_parse.specs.Marks.{prefix_at, role_at, start_of, comma, listed_level, listed_close, enclosed_level, enclosed_close, middle, Tokens, mark, from, first_name, mark_due, past}
+use Rattle.tp_parse.specs.Marks as marks
+
+-- ---- a phrase with its height, and how phrases are made of their operands
+
+-- a phrase, and its height with its parentheses
+pub record Found : Type 0 where
+  pub tree : PhraseTree
+  pub height : ℕ
+
+abbrev pub found : PhraseTree → ℕ → Found
+found t h = record { tree = t; height = h }
+
+-- operands in order, and the greatest of their heights, or 0
+pub record Operands : Type 0 where
+  pub trees : List PhraseTree
+  pub height : ℕ
+
+abbrev pub operands_of : List PhraseTree → ℕ → Operands
+operands_of ts h = record { trees = ts; height = h }
+
+abbrev pub no_operand : Operands
+no_operand = operands_of [] 0
+
+-- an operand and those after it
+abbrev pub operand_then : Found → Operands → Operands
+operand_then a all = operands_of (a.tree ∷ all.trees) (max a.height all.height)
+
+-- A phrase is 1 higher than its highest operand, and so are parentheses than what they stand round.
+
+abbrev pub atom_kind : Atom → KindTree
+atom_kind (a.Number n) = t.number n
+atom_kind (a.Truth b) = t.truth b
+atom_kind (a.Name x) = t.name x
+atom_kind (a.Bare w) = t.bare w
+atom_kind a.EmptyList = t.list no_phrase
+
+abbrev pub of_atom : ℕ → Atom → Found
+of_atom at a = found (phrase at (atom_kind a)) 1
+
+abbrev pub listed_kind : Listed → PhraseTrees → KindTree
+listed_kind l.List ps = t.list ps
+listed_kind (l.Form f) ps = t.form f ps
+listed_kind (l.Call x) ps = t.call x ps
+
+abbrev pub of_operands : ℕ → Listed → Operands → Found
+of_operands at l all = found (phrase at (listed_kind l (phrases_of all.trees))) (all.height + 1)
+
+abbrev pub enclosed_tree : ℕ → Enclosure → PhraseTree → PhraseTree
+enclosed_tree at e.Round a = a
+enclosed_tree at e.Curly a = a
+enclosed_tree at e.Size a = phrase at (t.size a)
+
+abbrev pub of_enclosed : ℕ → Enclosure → Found → Found
+of_enclosed at e a = found (enclosed_tree at e a.tree) (a.height + 1)
+
+abbrev pub of_choice : ℕ → Found → Found → Found
+of_choice at b p = found (phrase at (t.choice b.tree p.tree)) (max b.height p.height + 1)
+
+abbrev pub of_choice_else : ℕ → Found → Found → Found → Found
+of_choice_else at b p q =
+    found (phrase at (t.choice_else b.tree p.tree q.tree))
+    (max (max b.height p.height) q.height + 1)
+
+abbrev pub pair_kind : Pair → PhraseTree → PhraseTree → KindTree
+pair_kind p.While a b = t.while a b
+pair_kind p.Repeat a b = t.repeat a b
+pair_kind (p.For x) a b = t.for x a b
+pair_kind (p.Forall x) a b = t.forall x a b
+
+abbrev pub of_pair : ℕ → Pair → Found → Found → Found
+of_pair at p a b = found (phrase at (pair_kind p a.tree b.tree)) (max a.height b.height + 1)
+
+abbrev pub of_exists : ℕ → List (List ℕ) → Found → Found
+of_exists at xs a = found (phrase at (t.exists xs a.tree)) (a.height + 1)
+
+abbrev pub prefixed_kind : Prefix → PhraseTree → KindTree
+prefixed_kind prefix.Not a = t.negation a
+prefixed_kind prefix.Minus a = t.minus a
+prefixed_kind prefix.Next a = t.next a
+
+abbrev pub of_prefix : ℕ → Prefix → Found → Found
+of_prefix at o a = found (phrase at (prefixed_kind o a.tree)) (a.height + 1)
+
+abbrev pub of_infix : ℕ → Op → Found → Found → Found
+of_infix at o a b = found (phrase at (t.binary o a.tree b.tree)) (max a.height b.height + 1)
+
+abbrev pub of_index : ℕ → Found → Found → Found
+of_index at a i = found (phrase at (t.index a.tree i.tree)) (max a.height i.height + 1)
+
+abbrev pub of_chain : ℕ → Operands → Found
+of_chain at all = found (phrase at (t.conjunction (phrases_of all.trees))) (all.height + 1)
+
+-- the greatest height of a phrase
+abbrev pub limit : ℕ
+limit = 200
+
+abbrev pub defined : List ℕ → ℕ → List (List ℕ) → PhraseTree → DefinitionTree
+defined x at xs body = record { name = x; at = at; parameters = xs; body = body }
+
+abbrev pub source_of : List DefinitionTree → PhraseTree → SourceTree
+source_of ds main = record { definitions = ds; main = main }
+
+-- ---- which tokens are which phrase
 
 abbrev pub start : Tokens → Start
 start ts = start_of (mark ts)
@@ -54,7 +157,7 @@ pub data ReadsNames : Tokens → List (List ℕ) → Tokens → Type 0 where
 -- operand
 pub data BeginsPrimary : Tokens → Head → Tokens → Type 0 where
   number : {ts : Tokens} → start ts ≡ s.Number
-      → BeginsPrimary ts (h.Atom (a.Number (input.first_number ts))) (drop 1 ts)
+      → BeginsPrimary ts (h.Atom (a.Number (marks.first_number ts))) (drop 1 ts)
   truth : {ts : Tokens} {b : _} → start ts ≡ s.Truth b
       → BeginsPrimary ts (h.Atom (a.Truth b)) (drop 1 ts)
   upper_name : {ts : Tokens} → start ts ≡ s.Name

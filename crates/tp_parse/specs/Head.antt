@@ -10,10 +10,9 @@ use Rattle.tp_parse.specs.declared.head.Head.TheVariants.{Atom, Listed, Enclosed
 use Rattle.tp_parse.specs.declared.head.Atom.TheVariants as atom
 use Rattle.tp_parse.specs.declared.head.Listed.TheVariants as listed
 use Rattle.tp_parse.specs.declared.head.Pair.TheVariants as pair
-use Rattle.tp_parse.specs.declared.refusal.Refusal.{Refusal}
-use Rattle.tp_parse.specs.declared.refusal.Refusal.TheVariants.{TooDeep}
-use Rattle.tp_parse.specs.Marks.{before, start_of}
-use Rattle.tp_parse.specs.Input.{Tokens, mark, first_number, first_name, past}
+use Rattle.tp_parse.specs.declared.stop.Refusal.{Refusal}
+use Rattle.tp_parse.specs.declared.stop.Refusal.TheVariants.{TooDeep}
+use Rattle.tp_parse.specs.Marks.{before, start_of, Tokens, mark, first_number, first_name, past}
 use Rattle.tp_parse.specs.Readers.{Reader, ◌>>=◌, pure, refusal, refuse, sees, take, expect, taken_name, lower, names, deepen}
 
 abbrev pub head_taken : Head → Reader Head

@@ -1,7 +1,5 @@
 pub mod Marks
-pub mod Input
 pub mod Readers
-pub mod Found
 pub mod Seen
 pub mod Grammar
 pub mod Head

@@ -5,7 +5,7 @@ use Rattle.tp_lex.specs.Tokens.{AreTokens}
 use Rattle.tp_tree.specs.Tree.{SourceTree}
 use Rattle.tp_parse.specs.declared.refusal.ParseRefusal.{ParseRefusal}
 use Rattle.tp_parse.specs.declared.refusal.ParseRefusal.TheVariants.{Unexpected, Unfinished, TooDeep, NoMemory}
-use Rattle.tp_parse.specs.Input.{Tokens}
+use Rattle.tp_parse.specs.Marks.{Tokens}
 use Rattle.tp_parse.specs.Grammar.{IsSource, Accepts}
 
 -- some accepted source begins with the tokens

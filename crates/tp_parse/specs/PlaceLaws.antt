@@ -4,7 +4,7 @@ use Rattle.tp_lex.specs.Tokens.{AreTokens}
 use Rattle.tp_tree.specs.Tree.{SourceTree}
 use Rattle.tp_parse.specs.declared.refusal.ParseRefusal.{ParseRefusal}
 use Rattle.tp_parse.specs.declared.refusal.ParseRefusal.TheVariants.{Unfinished, NoMemory}
-use Rattle.tp_parse.specs.Input.{Tokens}
+use Rattle.tp_parse.specs.Marks.{Tokens}
 use Rattle.tp_parse.specs.Grammar.{Accepts}
 use Rattle.tp_parse.specs.Place.{BlamesFirst, BlamesFirstInText}
 

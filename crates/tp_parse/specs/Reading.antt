@@ -13,11 +13,10 @@ use Rattle.tp_parse.specs.declared.mark.Role.{Role}
 use Rattle.tp_parse.specs.declared.mark.Role.TheVariants.{Ends, Infix, Opens, Joins}
 use Rattle.tp_parse.specs.declared.head.Head.{Head}
 use Rattle.tp_parse.specs.declared.head.Head.TheVariants as h
-use Rattle.tp_parse.specs.Marks.{before, prefix_at, role_at, start_of, same, comma, listed_level, listed_close, enclosed_level, enclosed_close, middle}
-use Rattle.tp_parse.specs.Input.{mark, from, mark_due, past}
+use Rattle.tp_parse.specs.Marks.{before, prefix_at, role_at, start_of, same, comma, listed_level, listed_close, enclosed_level, enclosed_close, middle, mark, from, mark_due, past}
 use Rattle.tp_parse.specs.Readers.{Reader, ◌>>=◌, pure, too_deep, sees, take, expect, deepen}
 use Rattle.tp_parse.specs.Head.{head_by, admit, unfit}
-use Rattle.tp_parse.specs.Found.{Found, Operands, no_operand, operands_of, of_atom, of_operands, of_enclosed, of_choice, of_choice_else, of_pair, of_exists, of_prefix, of_infix, of_index, of_chain}
+use Rattle.tp_parse.specs.Grammar.{Found, Operands, no_operand, operands_of, of_atom, of_operands, of_enclosed, of_choice, of_choice_else, of_pair, of_exists, of_prefix, of_infix, of_index, of_chain}
 use Rattle.tp_parse.specs.Seen.{then_operand}
 
 -- whether more operators of the level may follow

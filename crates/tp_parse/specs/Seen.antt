@@ -9,7 +9,7 @@ use Rattle.tp_parse.specs.declared.phrases.OneOperand.TheVariants as one
 use Rattle.tp_parse.specs.declared.phrases.TwoOperands.{TwoOperands}
 use Rattle.tp_parse.specs.declared.phrases.TwoOperands.TheVariants as two
 use Rattle.tp_parse.specs.declared.operands.Operands as all
-use Rattle.tp_parse.specs.Found.{Found, found, Operands, operands_of, pair_kind, prefixed_kind}
+use Rattle.tp_parse.specs.Grammar.{Found, found, Operands, operands_of, pair_kind, prefixed_kind}
 
 -- one more than this height is a number of the machine's, with room to spare
 abbrev pub IsLow : ℕ → Type 0

@@ -7,14 +7,14 @@ use Rattle.tp_tree.specs.Tree.{PhraseTree, DefinitionTree, SourceTree}
 use Rattle.tp_tree.specs.declared.phrase.Source.{Source}
 use Rattle.tp_tree.specs.Read.{definition_tree, source_tree}
 use Rattle.tp_parse.specs.declared.mark.Mark.TheVariants as m
-use Rattle.tp_parse.specs.declared.refusal.Refusal.{Refusal}
-use Rattle.tp_parse.specs.declared.refusal.Refusal.TheVariants as r
+use Rattle.tp_parse.specs.declared.stop.Refusal.{Refusal}
+use Rattle.tp_parse.specs.declared.stop.Refusal.TheVariants as r
 use Rattle.tp_parse.specs.declared.refusal.ParseRefusal.{ParseRefusal}
 use Rattle.tp_parse.specs.declared.refusal.ParseRefusal.TheVariants as named_at
-use Rattle.tp_parse.specs.Input.{Tokens, from}
+use Rattle.tp_parse.specs.Marks.{Tokens, from}
 use Rattle.tp_parse.specs.Readers.{ReadOutcome, Reader, ◌>>=◌, pure, refusal, sees, take, expect, lower, names}
 use Rattle.tp_tree.specs.Levels.{chop_level}
-use Rattle.tp_parse.specs.Found.{limit, defined, source_of}
+use Rattle.tp_parse.specs.Grammar.{limit, defined, source_of}
 use Rattle.tp_parse.specs.Reading.{read}
 
 abbrev pub definition_trees : Definitions → List DefinitionTree

@@ -15,9 +15,8 @@ use Rattle.tp_tree.specs.declared.operator.Form.TheVariants as f
 use Rattle.tp_tree.specs.Tree.{PhraseTree, phrase, KindTree, number, truth, name, list, size, index, minus, next, negation, binary, conjunction, choice, choice_else, while, repeat, for, forall, exists, bare, form, call, PhraseTrees, no_phrase, phrase_then, DefinitionTree, SourceTree}
 use Rattle.tp_tree.specs.Levels.{index_level, prefix_level, sum_level, not_level, chop_level, any_level, left_level, right_level, kind_level}
 use Rattle.tp_tree.specs.Places.{IsSameUpToPlaces}
-use Rattle.tp_parse.specs.Input.{Tokens}
-use Rattle.tp_parse.specs.Found.{limit}
-use Rattle.tp_parse.specs.Grammar.{IsSource, Accepts}
+use Rattle.tp_parse.specs.Marks.{Tokens}
+use Rattle.tp_parse.specs.Grammar.{limit, IsSource, Accepts}
 use Rattle.tp_parse.specs.Source.{parse_outcome}
 
 abbrev pub token_kinds : List Token → List Kind

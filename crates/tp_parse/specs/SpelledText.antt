@@ -11,13 +11,12 @@ use Rattle.tp_lex.specs.Tokens.{AreTokens}
 use Rattle.tp_tree.specs.Tree.{PhraseTree, phrase, KindTree, number, truth, name, list, size, index, minus, next, negation, binary, conjunction, choice, choice_else, while, repeat, for, forall, exists, bare, form, call, PhraseTrees, no_phrase, phrase_then, DefinitionTree, SourceTree}
 use Rattle.tp_tree.specs.Spelling.{source_spelling}
 use Rattle.tp_tree.specs.Places.{IsSameUpToPlaces}
-use Rattle.tp_parse.specs.Input.{Tokens}
+use Rattle.tp_parse.specs.Marks.{Tokens}
 use Rattle.tp_tree.specs.declared.phrase.Source.{Source}
 use Rattle.tp_tree.specs.Read.{source_tree}
 use Rattle.tp_parse.specs.declared.refusal.ParseRefusal.{ParseRefusal}
 use Rattle.tp_parse.specs.declared.refusal.ParseRefusal.TheVariants.{NoMemory}
-use Rattle.tp_parse.specs.Found.{limit}
-use Rattle.tp_parse.specs.Grammar.{IsSource, Accepts}
+use Rattle.tp_parse.specs.Grammar.{limit, IsSource, Accepts}
 use Rattle.tp_parse.specs.Spelled.{token_kinds, source_kinds, IsWholeSource, ReadsBack}
 
 -- the text is a name

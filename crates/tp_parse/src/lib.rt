@@ -12,6 +12,7 @@ mod primary;
 mod refusal;
 mod role;
 mod source;
+mod stop;
 
 pub use laws::{names_are_tokens, place_is_one, printed_is_read_back};
 pub use refusal::ParseRefusal;

@@ -1,13 +1,13 @@
 // What is left of the tokens, and the steps that take them.
 ghost use Rattle.std.specs.Prelude.{◌≡◌, ◌<◌, drop, length, IfOk, OnOk};
-ghost use Rattle.tp_parse.specs.Input as spec;
+ghost use Rattle.tp_parse.specs.Marks as spec;
 ghost use Rattle.tp_parse.specs.Readers as readers;
 ghost use Rattle.tp_parse.specs.Readers.{ReturnsReading};
-ghost use Rattle.tp_parse.specs.declared.refusal.Refusal.TheVariants.{TooDeep};
+ghost use Rattle.tp_parse.specs.declared.stop.Refusal.TheVariants.{TooDeep};
 
 use crate::mark::Mark;
-use crate::refusal::Refusal;
 use crate::role::{first_half, mark_of, same, second_half};
+use crate::stop::Refusal;
 use std::alloc::Global;
 use std::marker::Model;
 use tp_lex::{Kind, Symbol, Token};
@@ -23,7 +23,7 @@ pub struct Parser<'a> {
 impl<'a> Model for Parser<'a> {
     ghost use Rattle.std.specs.Prelude.{List};
     ghost use Rattle.tp_lex.specs.declared.token.Token.{Token};
-    ghost use Rattle.tp_parse.specs.Input.{left_of};
+    ghost use Rattle.tp_parse.specs.Marks.{left_of};
 
     ghost Value = { List Token };
 
@@ -48,7 +48,7 @@ impl<'a> Parser<'a> {
     }
 
     /// The next token without its text.
-    #[tactic(auto, unfolding(crate::specs::Input::mark))]
+    #[tactic(auto, unfolding(crate::specs::Marks::mark))]
     pub fn mark(&self) -> Mark
         ensures { result ≡ spec.mark self.now }
     {
@@ -66,7 +66,7 @@ impl<'a> Parser<'a> {
     }
 
     /// The place of the next token's first byte, or 0 at the end.
-    #[tactic(auto, unfolding(crate::specs::Input::from))]
+    #[tactic(auto, unfolding(crate::specs::Marks::from))]
     pub fn from(&self) -> u32
         ensures { result ≡ spec.from self.now }
     {
@@ -83,7 +83,7 @@ impl<'a> Parser<'a> {
     }
 
     /// The next token's number, or 0 where it is none.
-    #[tactic(auto, unfolding(crate::specs::Input::first_number))]
+    #[tactic(auto, unfolding(crate::specs::Marks::first_number))]
     pub fn number(&self) -> Number
         ensures { result ≡ spec.first_number self.now }
     {
@@ -97,7 +97,7 @@ impl<'a> Parser<'a> {
     }
 
     /// The next token's name, or the empty text where it is none.
-    #[tactic(auto, unfolding(crate::specs::Input::first_name))]
+    #[tactic(auto, unfolding(crate::specs::Marks::first_name))]
     pub fn name(&self, alloc: Global) -> Result<Text, NoMemory>
         ensures { IfOk result (λ t. t ≡ spec.first_name self.now) }
     {
@@ -150,7 +150,7 @@ impl<'a> Parser<'a> {
     }
 
     /// Takes the next token, or its first half where it is read as two.
-    #[tactic(auto, unfolding(crate::specs::Input::past))]
+    #[tactic(auto, unfolding(crate::specs::Marks::past))]
     pub fn pass(&mut self)
         ensures { self.new ≡ spec.past self.old }
     {

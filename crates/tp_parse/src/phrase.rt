@@ -17,8 +17,8 @@ use crate::phrases::{
     of_two, raised,
 };
 use crate::primary::{enclosed_close, enclosed_level, listed_close, listed_level, middle};
-use crate::refusal::Refusal;
 use crate::role::{before, prefix_at, role_at, same, start_of};
+use crate::stop::Refusal;
 use std::alloc::Global;
 use tp_lex::{Symbol, Word};
 use tp_tree::level::{CHOP, grouping, right_level};

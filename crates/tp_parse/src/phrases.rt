@@ -1,17 +1,17 @@
 // Phrases with their heights, and how they are made of their operands.
 ghost use Rattle.std.specs.Prelude.{◌≡◌, ◌+◌, ◌<◌, max, IfOk, IfErr, map};
-ghost use Rattle.tp_parse.specs.Found as spec;
-ghost use Rattle.tp_parse.specs.Found.{found};
+ghost use Rattle.tp_parse.specs.Grammar as spec;
+ghost use Rattle.tp_parse.specs.Grammar.{found};
 ghost use Rattle.tp_parse.specs.Seen as views;
 ghost use Rattle.tp_parse.specs.Seen.{seen, all_seen, IsLow};
-ghost use Rattle.tp_parse.specs.declared.refusal.Refusal.TheVariants.{NoMemory};
+ghost use Rattle.tp_parse.specs.declared.stop.Refusal.TheVariants.{NoMemory};
 ghost use Rattle.tp_tree.specs.Read.{phrase_tree, kind_tree};
 ghost use Rattle.tp_tree.specs.Tree.{phrases_of};
 
 use crate::head::{Atom, Listed, Pair};
 use crate::mark::Prefix;
 use crate::operands::Operands;
-use crate::refusal::Refusal;
+use crate::stop::Refusal;
 use std::alloc::Global;
 use tp_tree::{Op, Phrase, PhraseKind, Phrases};
 use tp_value::Texts;

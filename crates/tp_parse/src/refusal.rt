@@ -1,8 +1,4 @@
 // Why tokens are refused.
-ghost use Rattle.std.specs.Prelude.{◌≡◌};
-ghost use Rattle.tp_parse.specs.declared.refusal.Refusal.TheVariants.{NoMemory};
-
-use std::alloc::AllocFailed;
 
 /// Why tokens are no source. A token is named by its number, counted from 0: it is the first one after which no accepted source goes
 /// on, so those before it begin one.
@@ -15,21 +11,4 @@ pub enum ParseRefusal {
     /// A source goes on with this token, but not one whose phrases are at most 200 high.
     TooDeep { token: usize },
     NoMemory,
-}
-
-/// Why no phrase was read. A token is named by how many tokens there are from it to the end.
-#[derive(Clone, Copy)]
-pub enum Refusal {
-    Unexpected(usize),
-    Unfinished,
-    TooDeep(usize),
-    NoMemory,
-}
-
-impl<T: Drop> From<AllocFailed<T>> for Refusal {
-    ghost from_gives = { λ _ e. e ≡ NoMemory };
-
-    fn from(_: AllocFailed<T>) -> Refusal {
-        Refusal::NoMemory
-    }
 }

@@ -14,7 +14,8 @@ ghost use Rattle.tp_parse.specs.declared.refusal.ParseRefusal.TheVariants.{NoMem
 
 use crate::mark::Mark;
 use crate::parser::Parser;
-use crate::refusal::{ParseRefusal, Refusal};
+use crate::refusal::ParseRefusal;
+use crate::stop::Refusal;
 use std::alloc::Global;
 use tp_lex::{Symbol, Tokens, Word};
 use tp_tree::level::CHOP;

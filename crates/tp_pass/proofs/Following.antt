@@ -11,7 +11,8 @@ use Rattle.tp_step.specs.declared.answer.Tried.{Tried}
 use Rattle.tp_step.specs.declared.answer.Tried.TheVariants as tried
 use Rattle.tp_pass.specs.declared.sweep.Sweep.{Sweep}
 use Rattle.tp_pass.specs.Sweeps.{BeginsSweep, TakesTurn}
-use Rattle.tp_step.specs.Closes.{EndsWithItem, LooksAt, Looks, Counts, ending_of, is_pick}
+use Rattle.tp_step.specs.EndsWith.{EndsWithItem}
+use Rattle.tp_step.specs.Closes.{LooksAt, Looks, Counts, ending_of, is_pick}
 use Rattle.tp_pass.specs.Follows.{Turns, no_turn_yet, one_pick, no_pick, PassSoFar, WholePasses, no_pass_yet, whole_pass, EndsAtTurn, PassTurns, EndsLastPass, FollowsOrder}
 
 -- Picks that were made so, appended to those before, of which each took one of the reductions that were left.

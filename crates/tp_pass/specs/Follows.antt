@@ -3,7 +3,7 @@ use Rattle.std.specs.Prelude.{◌≡◌, ℕ, ◌+◌, ◌<◌, true, List, [], 
 use Rattle.tp_scene.specs.Scene.{has}
 use Rattle.tp_scene.specs.Step.{Reduction}
 use Rattle.tp_scene.specs.Pick.{Setting, Moment, Reduces, outcome_of, IsIdle}
-use Rattle.tp_step.specs.Closes.{EndsWithItem}
+use Rattle.tp_step.specs.EndsWith.{EndsWithItem}
 use Rattle.tp_step.specs.declared.order.Order.{Order}
 use Rattle.tp_step.specs.declared.ending.Ending.{Ending}
 use Rattle.tp_step.specs.declared.ending.Ending.TheVariants.{Rest, Clash, Missing, Over}

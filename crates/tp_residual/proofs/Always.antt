@@ -11,8 +11,7 @@ use Rattle.tp_kernel.specs.declared.formula.Formula.TheViews.{out-Formula, roll-
 use Rattle.tp_kernel.specs.declared.formula.Formulas.{Formulas}
 use Rattle.tp_kernel.specs.Read.{formula_tree}
 use Rattle.tp_kernel.specs.Equations.{formula_true, formula_test, formula_eq, formula_next_eq, formula_empty, formula_more, formula_next, formula_weak_next, formula_if_more, formula_if_empty, formula_always, formula_and, formula_if, formula_len, formula_assign, formula_chop, formula_while, formula_for, formula_forall, formula_proj, formula_exists, formula_call, formula_input, formula_display}
-use Rattle.tp_residual.specs.Words.{Vocabulary}
-use Rattle.tp_residual.specs.Phrases.{formula_spelling, nexts_spelling}
+use Rattle.tp_residual.specs.Phrases.{Vocabulary, formula_spelling, nexts_spelling}
 
 next_more : (n : ℕ) → nexts_spelling n ++ codes "next " ≡ nexts_spelling (n + 1)
 next_more zero = refl

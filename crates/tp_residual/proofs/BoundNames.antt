@@ -7,7 +7,7 @@ use Rattle.std.proofs.lemmas.List.{length-map}
 use Rattle.tp_kernel.specs.declared.formula.Env.{Env}
 use Rattle.tp_kernel.specs.declared.formula.Binding.{Binding}
 use Rattle.tp_kernel.specs.Read.{binding_of, bindings_of}
-use Rattle.tp_residual.specs.Words.{BoundName, stands_for, named}
+use Rattle.tp_residual.specs.Phrases.{BoundName, stands_for, named}
 use Rattle.tp_residual.specs.Read.{bound_step, bound_names, left_after, own_bound_names}
 use Rattle.tp_residual.specs.declared.words.Bound.{Bound}
 use Rattle.tp_residual.specs.declared.words.Bound.TheVariants.{Around, Inside, Chain, rolls-Around, rolls-Inside, rolls-Chain}

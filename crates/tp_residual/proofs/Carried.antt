@@ -8,7 +8,7 @@ use Rattle.tp_scene.specs.Advance.{due, numbered, advanced}
 use Rattle.tp_scene.specs.Fits.{Dormant, EntriesFit}
 use Rattle.tp_scene.specs.Laws.{IsSound}
 use Rattle.tp_scene.proofs.StepsFit.{steps_fit}
-use Rattle.tp_residual.specs.Residual.{AreCarried}
+use Rattle.tp_residual.specs.Carried.{AreCarried}
 use Rattle.tp_residual.specs.Laws.{NextScenesAreCarried}
 
 -- a dormant region holds such items

@@ -7,8 +7,7 @@ use Rattle.tp_kernel.specs.declared.formula.Formula.{Formula}
 use Rattle.tp_kernel.specs.declared.formula.Formula.TheVariants as formula
 use Rattle.tp_kernel.specs.Read.{formula_tree}
 use Rattle.tp_kernel.specs.Equations.{formula_exists}
-use Rattle.tp_residual.specs.Phrases.{formula_spelling}
-use Rattle.tp_residual.specs.Words.{BoundName, Vocabulary, naming}
+use Rattle.tp_residual.specs.Phrases.{formula_spelling, BoundName, Vocabulary, naming}
 use Rattle.tp_residual.specs.Read.{bound_names, own_bound_names}
 use Rattle.tp_residual.specs.Chain.{naming_all, within_spelling}
 use Rattle.tp_residual.specs.declared.words.Bound.{Bound}

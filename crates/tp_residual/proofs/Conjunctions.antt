@@ -10,8 +10,7 @@ use Rattle.tp_kernel.specs.declared.formula.Formula.{Formula}
 use Rattle.tp_kernel.specs.declared.formula.Formulas.{Formulas}
 use Rattle.tp_kernel.specs.Read.{expr_tree, expr_trees, formula_tree, formula_trees}
 use Rattle.tp_kernel.specs.Equations.{expr_trees_is, formula_trees_is}
-use Rattle.tp_residual.specs.Words.{Vocabulary}
-use Rattle.tp_residual.specs.Phrases.{exprs_level, expr_spelling, exprs_spelling, all_exprs_spelling, formulas_level, formula_spelling, formulas_spelling, all_formulas_spelling}
+use Rattle.tp_residual.specs.Phrases.{Vocabulary, exprs_level, expr_spelling, exprs_spelling, all_exprs_spelling, formulas_level, formula_spelling, formulas_spelling, all_formulas_spelling}
 
 pub only_item : {A : Type 0} (xs : List A) (x : A) → 1 ≤ length xs → length xs < 2 → x ≡ get_or xs 0 x → xs ≡ x ∷ []
 only_item [] x a b e = absurd (omega arith)

@@ -16,8 +16,7 @@ use Rattle.tp_scene.proofs.Below.{variable_below}
 use Rattle.tp_show.specs.Texts.{index_text}
 use Rattle.tp_step_laws.specs.Renaming.{renamed_binding, renamed_bindings, renamed_leaf, renamed_holder, renamed_entries}
 use Rattle.tp_step_laws.specs.Maps.{Renaming, FixesBelow}
-use Rattle.tp_residual.specs.Words.{BoundName, stands_for, named, Vocabulary, naming, variable_spelling, bound_spelling, binding_spelling, definition_name}
-use Rattle.tp_residual.specs.Phrases.{enclosed, operation_spelling, called_with, phrase_operator, expr_level, expr_spelling, exprs_spelling, all_exprs_spelling, operand_expr, nexts_spelling, from_spelling, formula_level, formula_spelling, formulas_spelling, all_formulas_spelling}
+use Rattle.tp_residual.specs.Phrases.{BoundName, stands_for, named, Vocabulary, naming, variable_spelling, bound_spelling, binding_spelling, definition_name, enclosed, operation_spelling, called_with, phrase_operator, expr_level, expr_spelling, exprs_spelling, all_exprs_spelling, operand_expr, nexts_spelling, from_spelling, formula_level, formula_spelling, formulas_spelling, all_formulas_spelling}
 use Rattle.tp_residual.specs.Residual.{leaf_level, holder_level, level_in_front, entries_level, text_before, words_with, leaf_spelling, holder_spelling, entries_spelling, later_spelling}
 use Rattle.tp_residual.specs.OnePhrase.{AlikeMomentsHaveOnePhrase}
 

@@ -4,8 +4,7 @@ use Rattle.tp_meaning.specs.Syntax.{FormulaTree}
 use Rattle.tp_kernel.specs.declared.formula.Formula.{Formula}
 use Rattle.tp_kernel.specs.declared.formula.Formula.TheViews.{size-Formula}
 use Rattle.tp_tree.specs.Levels.{any_level}
-use Rattle.tp_residual.specs.Words.{Vocabulary}
-use Rattle.tp_residual.specs.Phrases.{enclosed, formula_level, formula_spelling}
+use Rattle.tp_residual.specs.Phrases.{Vocabulary, enclosed, formula_level, formula_spelling}
 use Rattle.tp_residual.specs.Read.{own_bound_names}
 
 -- with names that the phrase itself binds, the outermost first

@@ -5,7 +5,7 @@ use Rattle.tp_scene.specs.Pick.{Setting, Moment}
 use Rattle.tp_scene.specs.Replay.{Goes}
 use Rattle.tp_scene.specs.Advance.{advanced}
 use Rattle.tp_scene.specs.Laws.{IsSound}
-use Rattle.tp_residual.specs.Residual.{AreCarried}
+use Rattle.tp_residual.specs.Carried.{AreCarried}
 
 pub record NextScenesAreCarried : Type 0 where
   -- what a sound moment leaves for the next state

@@ -1,6 +1,6 @@
-pub mod Words
 pub mod Phrases
 pub mod Residual
+pub mod Carried
 pub mod Read
 pub mod Chain
 pub mod Seen

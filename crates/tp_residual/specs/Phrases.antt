@@ -1,17 +1,70 @@
--- How expressions and formulas are spelled: as the canonical spelling has the phrases that they
--- come from, with its levels.
-use Rattle.std.specs.Prelude.{ℕ, zero, suc, ℤ, pos, nat_le, List, [], ◌++◌, slice_get, if◌then◌else◌, codes}
+-- How names, expressions and formulas are spelled in a residual phrase.
+use Rattle.std.specs.Prelude.{ℕ, List, [], ◌∷◌, ◌++◌, Option, Some, None, slice_get, unwrap_or, zero, suc, ℤ, pos, nat_le, if◌then◌else◌, codes}
+use Rattle.std.specs.List.{flat_map}
+use Rattle.std.specs.Option.{option_map}
+use Rattle.tp_value.specs.declared.path.VarId.{VarId}
+use Rattle.tp_value.specs.declared.path.Path.{Path}
+use Rattle.tp_value.specs.Written.{text_of}
+use Rattle.tp_meaning.specs.Syntax.{Definition, BindingTree, place_binding, known_binding, Operator, Equal, Differs, Less, LessEqual, Greater, GreaterEqual, Plus, Minus, Times, Div, Mod, ExprTree, ExprTrees, no_expr, expr_then, numeral, boolean, known, bound, global, listing, size, index, minus, negation, both, either, binary, choice, invoke, FormulaTree, FormulaTrees, no_formula, formula_then, trivial, test, equation, next_equation, empty, more, next, weak_next, if_more, if_empty, always, conjunction, branch, len, assign, chop, while, for_from, forall_from, project, exists, call, input, display}
+use Rattle.tp_store.specs.Known.{Variable, name_of}
+use Rattle.tp_show.specs.Texts.{index_text}
 use Rattle.std.specs.Ordering.{int_eq}
 use Rattle.std.specs.Fmt.{signed_decimal}
-use Rattle.tp_value.specs.Written.{text_of}
 use Rattle.tp_tree.specs.declared.operator.Op.{Op}
 use Rattle.tp_tree.specs.declared.operator.Op.TheVariants as op
 use Rattle.tp_tree.specs.declared.operator.Form.TheVariants as f
 use Rattle.tp_tree.specs.declared.operator.Bare.TheVariants as b
 use Rattle.tp_tree.specs.Levels.{index_level, prefix_level, sum_level, relation_level, not_level, and_level, or_level, proj_level, chop_level, any_level, op_level, left_level, right_level}
 use Rattle.tp_tree.specs.Spelling.{op_spelling, bare_spelling, form_spelling, truth_spelling}
-use Rattle.tp_meaning.specs.Syntax.{Operator, Equal, Differs, Less, LessEqual, Greater, GreaterEqual, Plus, Minus, Times, Div, Mod, ExprTree, ExprTrees, no_expr, expr_then, numeral, boolean, known, bound, global, listing, size, index, minus, negation, both, either, binary, choice, invoke, FormulaTree, FormulaTrees, no_formula, formula_then, trivial, test, equation, next_equation, empty, more, next, weak_next, if_more, if_empty, always, conjunction, branch, len, assign, chop, while, for_from, forall_from, project, exists, call, input, display}
-use Rattle.tp_residual.specs.Words.{Vocabulary, naming, variable_spelling, bound_spelling, definition_name}
+
+-- ---- by what the names of a phrase are spelled
+
+-- a name that is bound: around the phrase, where it stands for a place or a value, or in the phrase
+-- itself
+pub data BoundName : Type 0 where
+  stands_for : BindingTree → BoundName
+  named : List ℕ → BoundName
+
+-- the variables of a store, the definitions, and the names that are bound, the outermost first
+pub record Vocabulary : Type 0 where
+  pub variables : List Variable
+  pub definitions : List Definition
+  pub bound : List BoundName
+
+-- with a name that the phrase itself binds
+abbrev pub naming : Vocabulary → List ℕ → Vocabulary
+naming v name =
+    record {
+      variables = v.variables;
+      definitions = v.definitions;
+      bound = v.bound ++ named name ∷ [];
+    }
+
+-- A variable is spelled by its source name, a local too. What is no variable of the store's isn't
+-- spelled.
+abbrev pub variable_spelling : List Variable → VarId → List ℕ
+variable_spelling xs x = unwrap_or (name_of xs x) []
+
+-- as L[1]
+abbrev pub path_spelling : List Variable → Path → List ℕ
+path_spelling xs p = variable_spelling xs p.var ++ flat_map index_text p.at
+
+abbrev pub binding_spelling : List Variable → BindingTree → List ℕ
+binding_spelling xs (place_binding p) = path_spelling xs p
+binding_spelling xs (known_binding t) = text_of t
+
+-- a bound name by what it stands for, or within the phrase by itself
+abbrev pub bound_spelling : List Variable → Option BoundName → List ℕ
+bound_spelling xs None = []
+bound_spelling xs (Some (stands_for x)) = binding_spelling xs x
+bound_spelling xs (Some (named name)) = name
+
+-- the name of the definition with this number
+abbrev pub definition_name : List Definition → ℕ → List ℕ
+definition_name ds i = unwrap_or (option_map (λ d. d.name) (slice_get ds i)) []
+
+-- ---- expressions and formulas, as the canonical spelling has the phrases that they come from,
+-- with its levels
 
 -- the operator of phrases that stands for this one
 abbrev pub phrase_operator : Operator → Op

@@ -1,7 +1,7 @@
 -- The names that the code spells by, as plain lists.
 use Rattle.std.specs.Prelude.{ℕ, zero, suc, List, [], ◌∷◌, ◌++◌, map, Option, Some, None}
 use Rattle.tp_kernel.specs.Read.{definitions_of, bindings_of}
-use Rattle.tp_residual.specs.Words.{BoundName, stands_for, named, Vocabulary}
+use Rattle.tp_residual.specs.Phrases.{BoundName, stands_for, named, Vocabulary}
 use Rattle.tp_residual.specs.declared.words.Bound.{Bound}
 use Rattle.tp_residual.specs.declared.words.Bound.TheOpen.{Bound-F}
 use Rattle.tp_residual.specs.declared.words.Bound.TheFolds.{fold-Bound}

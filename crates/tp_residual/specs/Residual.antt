@@ -7,29 +7,7 @@ use Rattle.tp_tree.specs.Levels.{not_level, and_level, proj_level, chop_level}
 use Rattle.tp_meaning.specs.Syntax.{Definition}
 use Rattle.tp_store.specs.Known.{Variable}
 use Rattle.tp_scene.specs.Scene.{Bindings, Leaf, Do, Later, Shown, Holder, Split, SplitProject, Closed, Opened, Running, Entries, none, leaf, node, Scene}
-use Rattle.tp_residual.specs.Words.{Vocabulary, stands_for}
-use Rattle.tp_residual.specs.Phrases.{enclosed, operation_spelling, formula_level, formula_spelling}
-
-abbrev pub IsDue : Leaf → Type 0
-IsDue (Do w env) = Unit {0}
-IsDue (Later w env) = ⊥
-IsDue (Shown vs) = ⊥
-
--- of a holder, where this is asked of its left region and of its outer one
-abbrev pub IsSplit : Holder → (left outer : Type 0) → Type 0
-IsSplit (Split w env) left outer = left
-IsSplit (SplitProject w env) left outer = left × outer
-IsSplit Closed left outer = ⊥
-IsSplit (Opened w env) left outer = ⊥
-IsSplit (Running w env) left outer = ⊥
-
--- The entries hold only `Do`, `Split` and `SplitProject`, those of the regions in them too: so a
--- state begins.
-abbrev pub AreCarried : Entries → Type 0
-AreCarried none = Unit {0}
-AreCarried (leaf id l rest) = IsDue l × AreCarried rest
-AreCarried (node id k h held g second rest) =
-    IsSplit k (AreCarried held) (AreCarried second) × AreCarried rest
+use Rattle.tp_residual.specs.Phrases.{Vocabulary, stands_for, enclosed, operation_spelling, formula_level, formula_spelling}
 
 -- The level of an entry. Such entries have no other kinds than `Do` and the two of `Split`.
 abbrev pub leaf_level : Leaf → ℕ

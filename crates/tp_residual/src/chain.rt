@@ -2,7 +2,7 @@
 ghost use Rattle.std.specs.Prelude.{◌≡◌, ◌++◌, ◌∷◌, [], codes, IfOk, OnOk};
 ghost use Rattle.tp_kernel.specs.Read.{formula_tree};
 ghost use Rattle.tp_residual.specs.Chain.{naming_all, within_spelling, IsNoDeeper};
-ghost use Rattle.tp_residual.specs.Words.{Vocabulary};
+ghost use Rattle.tp_residual.specs.Phrases.{Vocabulary};
 
 use tp_kernel::Formula;
 use tp_value::{NoMemory, Text, Texts};

@@ -5,9 +5,8 @@ ghost use Rattle.tp_tree.specs.Levels.{any_level};
 ghost use Rattle.tp_tree.specs.Spelling.{op_spelling, truth_spelling};
 ghost use Rattle.tp_kernel.specs.Read.{expr_tree, expr_trees, operator_of};
 ghost use Rattle.tp_residual.specs.Phrases as spec;
-ghost use Rattle.tp_residual.specs.Phrases.{all_exprs_spelling, called_with, exprs_spelling, operand_expr, phrase_operator};
+ghost use Rattle.tp_residual.specs.Phrases.{all_exprs_spelling, called_with, exprs_spelling, operand_expr, phrase_operator, definition_name};
 ghost use Rattle.tp_residual.specs.Read.{vocabulary_of};
-ghost use Rattle.tp_residual.specs.Words.{definition_name};
 
 use crate::words::{Words, append_bound, append_definition_name, append_variable};
 use itoa::Buffer;

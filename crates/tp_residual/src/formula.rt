@@ -4,10 +4,9 @@ ghost use Rattle.tp_kernel.specs.Read.{expr_tree, expr_trees, formula_tree, form
 ghost use Rattle.tp_meaning.specs.Syntax as syntax;
 ghost use Rattle.tp_tree.specs.Levels.{any_level};
 ghost use Rattle.tp_residual.specs.Phrases as spec;
-ghost use Rattle.tp_residual.specs.Phrases.{all_formulas_spelling, called_with, counted_spelling, enclosed, formula_spelling, formulas_spelling, from_spelling, nexts_spelling};
+ghost use Rattle.tp_residual.specs.Phrases.{all_formulas_spelling, called_with, counted_spelling, enclosed, formula_spelling, formulas_spelling, from_spelling, nexts_spelling, naming};
 ghost use Rattle.tp_residual.specs.Chain.{naming_all, within_spelling};
 ghost use Rattle.tp_residual.specs.Read.{vocabulary_of};
-ghost use Rattle.tp_residual.specs.Words.{naming};
 
 use crate::chain::{append_chain, append_hidden};
 use crate::expr::{

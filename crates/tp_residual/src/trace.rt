@@ -5,7 +5,8 @@ ghost use Rattle.tp_kernel.specs.Read.{definitions_of};
 ghost use Rattle.tp_slots.specs.Kept.{IsWellKept};
 ghost use Rattle.tp_slots.specs.Plain.{IsOrdered};
 ghost use Rattle.tp_slots.specs.Read.{scene_of, slots_of};
-ghost use Rattle.tp_residual.specs.Residual.{AreCarried, reductions_line, residual_line, residual_of, trace_lines};
+ghost use Rattle.tp_residual.specs.Carried.{AreCarried};
+ghost use Rattle.tp_residual.specs.Residual.{reductions_line, residual_line, residual_of, trace_lines};
 ghost use Rattle.tp_residual.specs.Seen.{region_spelling};
 
 use crate::scene::{Residue, append_scene};

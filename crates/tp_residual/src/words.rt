@@ -6,7 +6,7 @@ ghost use Rattle.tp_kernel.specs.Read.{binding_of, definitions_of};
 ghost use Rattle.tp_show.specs.Texts.{index_text};
 ghost use Rattle.tp_store.specs.Known.{Variable};
 ghost use Rattle.tp_residual.specs.Read.{bound_names, left_after, own_bound_names};
-ghost use Rattle.tp_residual.specs.Words.{binding_spelling, bound_spelling, definition_name, path_spelling, variable_spelling};
+ghost use Rattle.tp_residual.specs.Phrases.{binding_spelling, bound_spelling, definition_name, path_spelling, variable_spelling};
 
 use itoa::Buffer;
 use std::alloc::Global;

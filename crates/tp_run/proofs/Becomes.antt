@@ -25,7 +25,7 @@ use Rattle.tp_scene.specs.Beginning.{first_moment}
 use Rattle.tp_scene.specs.Laws.{IsSound}
 use Rattle.tp_slots.specs.declared.scene.Scene.{Scene}
 use Rattle.tp_step.specs.Answers.{Tries}
-use Rattle.tp_step.specs.declared.answer.Tally.{Tally}
+use Rattle.tp_step.specs.declared.tally.Tally.{Tally}
 use Rattle.tp_step.specs.declared.answer.Tried.{Tried}
 use Rattle.tp_step.specs.declared.answer.Tried.TheVariants as tried
 use Rattle.tp_step.specs.declared.ending.Ending.{Ending}
@@ -40,12 +40,10 @@ use Rattle.tp_run.specs.declared.run.Stand.TheVariants.{Open, Answered, Spent}
 use Rattle.tp_show.specs.declared.turn.Picture.{Picture}
 use Rattle.tp_show.specs.declared.turn.Turn.{Turn}
 use Rattle.tp_show.specs.declared.turn.Turn.TheVariants.{Went, Finished, Contradictory, Undetermined, StateLimit, InputMissing, Over}
-use Rattle.tp_run.specs.States.{Plan, globals_of, setting, IsPictureOf, StateGoesOn, StateEnds, ReachesLimit, limit_moment}
+use Rattle.tp_run.specs.History.{Plan, globals_of, setting, IsPictureOf, StateGoesOn, StateEnds, ReachesLimit, limit_moment, limit_picks, AgreesWithFacts}
 use Rattle.tp_run.specs.Standing.{Standing, open_at, answered, spent, state_after, StateBecomes, AnswersState}
-use Rattle.tp_run.specs.PicksOfRun.{limit_picks}
 use Rattle.tp_run.specs.StateTries.{picks_of_state, end_of_state, IsEndingFor}
 use Rattle.tp_run.specs.Meaning.{StandingFor, StandsForItsProgram, AnswerMeans}
-use Rattle.tp_run.specs.History.{AgreesWithFacts}
 use Rattle.tp_run.specs.Runs.{stands_at, standing_of, standing_place, store_of, StandIsKept, StandIsOf, TurnIsOf, MadeIsOf, StandsSound, StandsOrderly, IsSettingsOf, IsRunOf, HasPicture, NextOf, RestTurns}
 use Rattle.tp_run.specs.EachOrder.{AnswerAgrees, AnswerHasNoDeadEnd}
 use Rattle.tp_run.proofs.OneState.{Orderly, next_orderly, state_agrees, no_dead_end}

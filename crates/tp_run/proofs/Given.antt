@@ -10,7 +10,7 @@ use Rattle.tp_scene.proofs.AdvancesFit.{advances_fit}
 use Rattle.tp_scene.proofs.Begin.{runs_begin}
 use Rattle.tp_scene.specs.Beginning.{first_moment}
 use Rattle.tp_scene.specs.Laws.{IsSound}
-use Rattle.tp_run.specs.States.{Plan, setting}
+use Rattle.tp_run.specs.History.{Plan, setting}
 use Rattle.tp_run.proofs.StatesMean.{SceneLaws}
 use Rattle.tp_run.proofs.Lives.{StateLaws}
 use Rattle.tp_run.proofs.HistoryLemmas.{BeginLaws}

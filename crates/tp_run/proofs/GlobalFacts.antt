@@ -16,12 +16,11 @@ use Rattle.tp_store.specs.Changes.{IsSoundStore, HaveSameShapes, HasAppended}
 use Rattle.tp_store.proofs.Paths.{same_path-decides, same_path-refl}
 use Rattle.tp_store.proofs.Members.{In, in_filter, filter_in, NoClash-filter, kept_in, in_kept, kept_none, none_kept, meets_none, apart_in}
 use Rattle.tp_store.proofs.Same.{same_kept, same_full}
-use Rattle.tp_show.specs.Parts.{parts_by, line_parts}
+use Rattle.tp_show.specs.Line.{parts_by, line_parts, is_before, AreInOrder}
 use Rattle.tp_show.proofs.LineLemmas.{parts_same}
 use Rattle.tp_scene.proofs.Globals.{of_variables_in}
-use Rattle.tp_show.specs.Parts.{is_before, AreInOrder}
 use Rattle.tp_show.proofs.FactOrder.{is_before-order}
-use Rattle.tp_run.specs.States.{AreGlobals}
+use Rattle.tp_run.specs.History.{AreGlobals}
 
 neither_lesser : (a b : List ℕ) → is_lesser a b ≡ false → is_lesser b a ≡ false → a ≡ b
 neither_lesser [] [] h k = refl

@@ -19,9 +19,8 @@ use Rattle.tp_scene.specs.Replay as replay
 use Rattle.tp_show.specs.declared.turn.Picture.{Picture}
 use Rattle.tp_show.specs.declared.turn.Turn.{Turn}
 use Rattle.tp_show.specs.declared.turn.Turn.TheVariants.{Went, Finished, Contradictory, Undetermined, StateLimit, InputMissing, Over}
-use Rattle.tp_run.specs.States.{Plan, globals_of, setting, StateGoesOn, StatesLead, LeadsTo, ReachesLimit, limit_moment}
+use Rattle.tp_run.specs.History.{Plan, globals_of, setting, StateGoesOn, StatesLead, LeadsTo, ReachesLimit, limit_moment, FinishesAt, RunEndsWith, AgreesWithPictures, shown_from, SatisfiedExactly, Satisfiable, Unsatisfiable, ContinuesEach}
 use Rattle.tp_run.specs.Standing.{answered, RunPlace, state_after, StateBecomes}
-use Rattle.tp_run.specs.History.{FinishesAt, RunEndsWith, AgreesWithPictures, shown_from, SatisfiedExactly, Satisfiable, Unsatisfiable, ContinuesEach}
 use Rattle.tp_run.specs.Advances.{EndOfRunMeans, Advances, RunsAdvance}
 use Rattle.tp_run.proofs.StatesMean.{SceneLaws, leads_sound, leads_keep, lead_sound, states_say, ends_here_says, picture_agrees}
 use Rattle.tp_scene.proofs.Quiet.{says_quiet}

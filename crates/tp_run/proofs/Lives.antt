@@ -12,8 +12,7 @@ use Rattle.tp_store.proofs.Members.{in_filter, filter_in, kept_in, in_kept, agre
 use Rattle.tp_scene.specs.Pick.{Setting, Moment, Leads}
 use Rattle.tp_scene.specs.Laws.{IsSound}
 use Rattle.tp_show.specs.declared.turn.Picture.{Picture}
-use Rattle.tp_run.specs.States.{Plan, globals_of, setting, StateGoesOn, StatesLead}
-use Rattle.tp_run.specs.History.{AgreesWithPictures}
+use Rattle.tp_run.specs.History.{Plan, globals_of, setting, StateGoesOn, StatesLead, AgreesWithPictures}
 use Rattle.tp_run.proofs.StatesMean.{SceneLaws, leads_sound, next_sound, picture_agrees}
 
 -- what was kept is kept where more is appended

@@ -4,13 +4,13 @@ use Rattle.tp_scene.specs.Pick.{Setting, Moment}
 use Rattle.tp_store.specs.Known.{Contents}
 use Rattle.tp_step.specs.declared.order.Order.{Order}
 use Rattle.tp_step.specs.declared.ending.Ending.{Ending}
-use Rattle.tp_step.specs.declared.answer.Wait.{Wait}
+use Rattle.tp_step.specs.declared.tally.Wait.{Wait}
 use Rattle.tp_agenda.specs.Agenda.{FollowsAgenda}
 use Rattle.tp_show.specs.declared.turn.Picture.{Picture}
 use Rattle.tp_show.specs.declared.turn.Turn.{Turn}
 use Rattle.tp_show.specs.declared.turn.Turn.TheVariants.{Went, Finished, Contradictory, Undetermined, StateLimit, InputMissing, Over}
 use Rattle.tp_run.specs.declared.run.Run.{Run}
-use Rattle.tp_run.specs.States.{Plan, setting}
+use Rattle.tp_run.specs.History.{Plan, setting}
 use Rattle.tp_run.specs.Standing.{Standing, open_at}
 use Rattle.tp_run.specs.Runs.{IsRunOf, RestTurns}
 use Rattle.tp_run.specs.Ordered.{EndsInOrder, IsNamedInOrder}

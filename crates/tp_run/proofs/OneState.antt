@@ -16,7 +16,7 @@ use Rattle.tp_show.specs.declared.turn.Picture.{Picture}
 use Rattle.tp_show.specs.declared.turn.Turn.{Turn}
 use Rattle.tp_show.specs.declared.turn.Turn.TheVariants.{Went, Finished, Contradictory, Undetermined, StateLimit, InputMissing, Over}
 use Rattle.tp_store.specs.Known.{Contents}
-use Rattle.tp_run.specs.States.{Plan, setting, IsPictureOf, StateGoesOn, StateEnds, ReachesLimit}
+use Rattle.tp_run.specs.History.{Plan, setting, IsPictureOf, StateGoesOn, StateEnds, ReachesLimit}
 use Rattle.tp_run.specs.Standing.{Standing, StateBecomes}
 use Rattle.tp_step_laws.specs.Maps.{renamed_cell}
 use Rattle.tp_step_laws.specs.Alike.{Alike, SettlesAlike}

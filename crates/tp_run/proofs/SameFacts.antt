@@ -9,7 +9,7 @@ use Rattle.tp_store.specs.Facts.{same_path, kept_shape, fact}
 use Rattle.tp_store.specs.Changes.{HaveSameShapes}
 use Rattle.tp_store.proofs.Paths.{same_path-decides, same_path-refl}
 use Rattle.tp_store.proofs.Members.{In, kept_in}
-use Rattle.tp_show.specs.Parts.{is_before, AreInOrder}
+use Rattle.tp_show.specs.Line.{is_before, AreInOrder}
 use Rattle.tp_show.proofs.FactOrder.{is_before-order}
 
 before_each : (f : Fact) (fs : List Fact) → AllByRecursion (λ g. IsTrue (is_before f g)) fs → (g : Fact) → In g fs → is_before f g ≡ true

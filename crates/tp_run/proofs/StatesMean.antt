@@ -16,8 +16,7 @@ use Rattle.tp_scene.specs.StandsFor.{StandsFor}
 use Rattle.tp_scene.specs.Laws.{IsSound, StepsKeep, AdvancesKeep, EndsStand}
 use Rattle.tp_meaning.proofs.Shows.{join-assoc as join_assoc}
 use Rattle.tp_show.specs.declared.turn.Picture.{Picture}
-use Rattle.tp_run.specs.States.{Plan, globals_of, setting, AreGlobals, StateGoesOn, StateEnds, StatesLead}
-use Rattle.tp_run.specs.History.{AgreesWithFacts, AgreesWithPictures, shown_from}
+use Rattle.tp_run.specs.History.{Plan, globals_of, setting, AreGlobals, StateGoesOn, StateEnds, StatesLead, AgreesWithFacts, AgreesWithPictures, shown_from}
 
 -- the laws of scenes, as runs need them
 pub record SceneLaws : Type 0 where

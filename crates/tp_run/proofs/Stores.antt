@@ -14,7 +14,7 @@ use Rattle.tp_show.specs.declared.turn.Turn.{Turn}
 use Rattle.tp_show.specs.declared.turn.Turn.TheVariants.{Went, Finished, Contradictory, Undetermined, StateLimit, InputMissing, Over}
 use Rattle.tp_kernel.specs.declared.fault.LimitKind.TheVariants as kind
 use Rattle.tp_kernel.specs.declared.fault.LimitKind.{LimitKind}
-use Rattle.tp_run.specs.States.{Plan, setting, ReachesLimit, limit_moment}
+use Rattle.tp_run.specs.History.{Plan, setting, ReachesLimit, limit_moment}
 use Rattle.tp_run.specs.Standing.{Standing, open_at, answered, StateBecomes}
 use Rattle.tp_run.specs.Runs.{stands_at, HasFirst}
 

@@ -3,7 +3,7 @@ use Rattle.std.proofs.Common.{◌≡◌, ℕ, ◌+◌, ◌≤◌, ◌<◌, List,
 use Rattle.tp_decide.specs.Decided.{setting_of}
 use Rattle.tp_store.specs.Known.{Contents}
 use Rattle.tp_scene.specs.Pick.{Setting, Moment}
-use Rattle.tp_step.specs.declared.answer.Tally.{Tally}
+use Rattle.tp_step.specs.declared.tally.Tally.{Tally}
 use Rattle.tp_step.specs.declared.ending.Ending.{Ending}
 use Rattle.tp_step.specs.declared.ending.Ending.TheVariants as ending
 use Rattle.tp_agenda.specs.Agenda.{FollowsAgenda, IsThrifty}
@@ -14,10 +14,10 @@ use Rattle.tp_show.specs.declared.turn.Picture.{Picture}
 use Rattle.tp_show.specs.declared.turn.Turn.{Turn}
 use Rattle.tp_show.specs.declared.turn.Turn.TheVariants.{Went, Finished, Contradictory, Undetermined, StateLimit, InputMissing, Over}
 use Rattle.tp_run.specs.declared.run.Run.{Run}
-use Rattle.tp_run.specs.States.{Plan, setting}
+use Rattle.tp_run.specs.History.{Plan, setting}
 use Rattle.tp_run.specs.Standing.{Standing, open_at}
 use Rattle.tp_run.specs.Runs.{IsSettingsOf, IsRunOf, standing_of}
-use Rattle.tp_run.specs.Tried.{waits_in, TriesBeyond}
+use Rattle.tp_run.specs.Ordered.{waits_in, TriesBeyond}
 use Rattle.tp_run.specs.StateTries.{IsEndingFor, IsTallyOf, CountsStateTries, BeginsNoState}
 use Rattle.tp_run.proofs.Becomes.{BecomesBy, same_setting}
 

@@ -6,9 +6,8 @@ use Rattle.tp_scene.specs.Beginning.{first_moment}
 use Rattle.tp_show.specs.declared.turn.Picture.{Picture}
 use Rattle.tp_show.specs.declared.turn.Turn.{Turn}
 use Rattle.tp_show.specs.declared.turn.Turn.TheVariants.{Went, Finished, Contradictory, Undetermined, StateLimit, InputMissing, Over}
-use Rattle.tp_run.specs.States.{Plan, LeadsTo}
+use Rattle.tp_run.specs.History.{Plan, LeadsTo, RunEndsWith, end_moment, end_store, SatisfiedExactly, Satisfiable, Unsatisfiable, ContinuesEach}
 use Rattle.tp_run.specs.Standing.{open_at, answered, RunPlace, state_after, StateBecomes}
-use Rattle.tp_run.specs.History.{RunEndsWith, end_moment, end_store, SatisfiedExactly, Satisfiable, Unsatisfiable, ContinuesEach}
 
 -- what the end of a run says of every interval
 abbrev pub EndOfRunMeans : Plan → List Picture → Turn → Type 0

@@ -8,7 +8,7 @@ use Rattle.tp_show.specs.declared.turn.Picture.{Picture}
 use Rattle.tp_show.specs.declared.turn.Turn.{Turn}
 use Rattle.tp_show.specs.declared.turn.Turn.TheVariants.{Went, Finished, Contradictory, Undetermined, StateLimit, InputMissing, Over}
 use Rattle.tp_step_laws.specs.Orders.{GoesOnToRest}
-use Rattle.tp_run.specs.States.{Plan, globals_of, setting, StateGoesOn, StateEnds}
+use Rattle.tp_run.specs.History.{Plan, globals_of, setting, StateGoesOn, StateEnds}
 use Rattle.tp_run.specs.Standing.{Standing, open_at, answered, spent}
 use Rattle.tp_run.specs.Same.{SamePicture, SameCell, FailsIn}
 

@@ -1,13 +1,10 @@
-pub mod States
 pub mod Meaning
 pub mod History
-pub mod PicksOfRun
 pub mod Runs
-pub mod Ordered
 pub mod Same
 pub mod EachOrder
 pub mod Standing
-pub mod Tried
+pub mod Ordered
 pub mod Advances
 pub mod SettledStates
 pub mod StateTries

@@ -8,9 +8,8 @@ use Rattle.tp_scene.specs.StandsFor.{StandsFor, context_of}
 use Rattle.tp_show.specs.declared.turn.Picture.{Picture}
 use Rattle.tp_show.specs.declared.turn.Turn.{Turn}
 use Rattle.tp_show.specs.declared.turn.Turn.TheVariants.{Went, Finished, Contradictory, Undetermined, StateLimit, InputMissing, Over}
-use Rattle.tp_run.specs.States.{Plan, globals_of, setting}
+use Rattle.tp_run.specs.History.{Plan, globals_of, setting, AgreesWithFacts}
 use Rattle.tp_run.specs.Standing.{Standing, open_at, answered, spent}
-use Rattle.tp_run.specs.History.{AgreesWithFacts}
 
 -- the intervals, with what is shown on them, that the states still to come are free to be; the next
 -- one has this number

@@ -25,9 +25,8 @@ use Rattle.tp_run.specs.declared.run.Stand.TheVariants.{Open, Answered, Spent}
 use Rattle.tp_show.specs.declared.turn.Picture.{Picture}
 use Rattle.tp_show.specs.declared.turn.Turn.{Turn}
 use Rattle.tp_show.specs.declared.turn.Turn.TheVariants.{Went, Finished, Contradictory, Undetermined, StateLimit, InputMissing, Over}
-use Rattle.tp_show.specs.Parts.{line_parts}
-use Rattle.tp_show.specs.Read.{plain_parts}
-use Rattle.tp_run.specs.States.{Plan, globals_of, setting, AreGlobals}
+use Rattle.tp_show.specs.Line.{line_parts, plain_parts}
+use Rattle.tp_run.specs.History.{Plan, globals_of, setting, AreGlobals}
 use Rattle.tp_run.specs.Standing.{RunPlace, Standing, open_at, answered, spent}
 
 -- where a run stands with what its store holds

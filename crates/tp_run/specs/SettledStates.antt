@@ -4,9 +4,7 @@ use Rattle.tp_scene.specs.Pick.{Moment}
 use Rattle.tp_show.specs.declared.turn.Picture.{Picture}
 use Rattle.tp_show.specs.declared.turn.Turn.{Turn}
 use Rattle.tp_show.specs.declared.turn.Turn.TheVariants.{Went, Finished, Contradictory, Undetermined, StateLimit, InputMissing, Over}
-use Rattle.tp_run.specs.History.{RunEndsWith}
-use Rattle.tp_run.specs.States.{Plan, StatesLead, LeadsTo}
-use Rattle.tp_run.specs.PicksOfRun.{beginning_of}
+use Rattle.tp_run.specs.History.{RunEndsWith, beginning_of, Plan, StatesLead, LeadsTo}
 
 -- a settled state: its picture, and what the next state begins with, where there is one
 pub record SettledState : Type 0 where

@@ -6,7 +6,7 @@ use Rattle.tp_scene.specs.Replay as replay
 use Rattle.tp_show.specs.declared.turn.Picture.{Picture}
 use Rattle.tp_show.specs.declared.turn.Turn.{Turn}
 use Rattle.tp_show.specs.declared.turn.Turn.TheVariants.{Went, Finished, Contradictory, Undetermined, StateLimit, InputMissing, Over}
-use Rattle.tp_run.specs.States.{Plan, setting, StateGoesOn, StateEnds, ReachesLimit, limit_moment}
+use Rattle.tp_run.specs.History.{Plan, setting, StateGoesOn, StateEnds, ReachesLimit, limit_moment}
 
 -- where a run stands: before a state that begins with this moment; after this last answer, at the
 -- moment that its state's picks led to; or given up for want of memory

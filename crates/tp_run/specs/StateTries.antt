@@ -2,7 +2,7 @@
 use Rattle.std.specs.Prelude.{◌≡◌, ℕ, ◌+◌, ◌≤◌, List, [], length}
 use Rattle.tp_scene.specs.Pick.{Moment}
 use Rattle.tp_store.specs.Known.{Contents}
-use Rattle.tp_step.specs.declared.answer.Tally.{Tally}
+use Rattle.tp_step.specs.declared.tally.Tally.{Tally}
 use Rattle.tp_step.specs.declared.order.Order.{Order}
 use Rattle.tp_step.specs.declared.ending.Ending.{Ending}
 use Rattle.tp_step.specs.declared.ending.Ending.TheVariants as ending
@@ -10,10 +10,9 @@ use Rattle.tp_show.specs.declared.turn.Picture.{Picture}
 use Rattle.tp_show.specs.declared.turn.Turn.{Turn}
 use Rattle.tp_show.specs.declared.turn.Turn.TheVariants.{Went, Finished, Contradictory, Undetermined, StateLimit, InputMissing, Over}
 use Rattle.tp_run.specs.declared.run.Run.{Run}
-use Rattle.tp_run.specs.States.{Plan, setting, limit_moment}
-use Rattle.tp_run.specs.PicksOfRun.{limit_picks}
+use Rattle.tp_run.specs.History.{Plan, setting, limit_moment, limit_picks}
 use Rattle.tp_run.specs.Standing.{Standing, open_at, answered, spent, StateBecomes}
-use Rattle.tp_run.specs.Tried.{waits_in, recorded_tries, ClosesThriftily, TriesBeyond}
+use Rattle.tp_run.specs.Ordered.{waits_in, recorded_tries, ClosesThriftily, TriesBeyond}
 
 -- what it recorded of the state that it began last
 abbrev pub tally_of : Run → Tally

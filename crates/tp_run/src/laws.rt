@@ -1,5 +1,5 @@
 // Laws of whole runs. Each function does nothing: its contract is the law.
-ghost use Rattle.tp_run.specs.States.{Plan};
+ghost use Rattle.tp_run.specs.History.{Plan};
 ghost use Rattle.tp_run.specs.Advances.{RunsAdvance, RunsMean};
 
 /// Each answer of a run adds a settled state or is the run's end, and at the end its store holds what was known then.

@@ -6,9 +6,8 @@ ghost use Rattle.tp_scene.specs.Advance.{shown_in};
 ghost use Rattle.tp_decide.specs.Read.{shows_of};
 ghost use Rattle.tp_slots.specs.Kept.{IsWellKept};
 ghost use Rattle.tp_slots.specs.Read.{scene_of};
-ghost use Rattle.tp_show.specs.Parts.{is_before, line_parts};
-ghost use Rattle.tp_show.specs.Read.{plain_parts};
-ghost use Rattle.tp_run.specs.States.{AreGlobals};
+ghost use Rattle.tp_show.specs.Line.{is_before, line_parts, plain_parts};
+ghost use Rattle.tp_run.specs.History.{AreGlobals};
 
 use std::alloc::Global;
 use std::cmp::Ordering;

@@ -19,12 +19,11 @@ ghost use Rattle.tp_slots.specs.Kept.{IsWellKept, Lives};
 ghost use Rattle.tp_slots.specs.Read.{scene_of};
 ghost use Rattle.tp_step.specs.Answers.{moment_of};
 ghost use Rattle.tp_step.specs.OfVariables.{CellIsOf};
-ghost use Rattle.tp_run.specs.States.{Plan, plan_with, setting};
+ghost use Rattle.tp_run.specs.History.{Plan, plan_with, setting};
 ghost use Rattle.tp_run.specs.Standing.{open_at, answered, spent, state_after, AnswersState, StateBecomes};
 ghost use Rattle.tp_run.specs.Meaning.{StandsForItsProgram, AnswerMeans};
-ghost use Rattle.tp_run.specs.Ordered.{IsNamedInOrder};
+ghost use Rattle.tp_run.specs.Ordered.{IsNamedInOrder, TriesBeyond};
 ghost use Rattle.tp_run.specs.EachOrder.{AnswerAgrees, AnswerHasNoDeadEnd};
-ghost use Rattle.tp_run.specs.Tried.{TriesBeyond};
 ghost use Rattle.tp_run.specs.StateTries.{tally_of, HasRecordedNothing, IsTallyOf, CountsStateTries, BeginsNoState};
 ghost use Rattle.tp_run.specs.Runs.{stands_at, standing_of, program_of, next_state_of, order_of, standing_place, store_of, carried_scene, last_scene_in, IsSettingsOf, IsRunOf, HasPicture, NextOf, RestTurns, StandIsKept, HasFirst, TurnIsOf, MadeIsOf};
 

@@ -5,11 +5,9 @@ use Rattle.tp_scene.specs.Replay as replay
 use Rattle.tp_show.specs.declared.turn.Picture.{Picture}
 use Rattle.tp_show.specs.declared.turn.Turn.{Turn}
 use Rattle.tp_show.specs.declared.turn.Turn.TheVariants.{Went, Finished, Contradictory, Undetermined, StateLimit, InputMissing, Over}
-use Rattle.tp_run.specs.History.{RunEndsWith}
+use Rattle.tp_run.specs.History.{RunEndsWith, beginning_of, Plan, setting, LeadsTo, ReachesLimit}
 use Rattle.tp_run.specs.Same.{SamePictures, SameEnd}
-use Rattle.tp_run.specs.States.{Plan, setting, LeadsTo, ReachesLimit}
 use Rattle.tp_run.proofs.OneState.{kinds, EndsAt, first_orderly, itself}
-use Rattle.tp_run.specs.PicksOfRun.{beginning_of}
 use Rattle.tp_run_laws.specs.Agree.{IsOrderlyPlan, RunsAgree}
 use Rattle.tp_run_laws.proofs.Walk.{Walked, walked, same_ends, pictures_join}
 

@@ -11,9 +11,7 @@ use Rattle.tp_step.proofs.Picks.{leads_on}
 use Rattle.tp_show.specs.declared.turn.Picture.{Picture}
 use Rattle.tp_show.specs.declared.turn.Turn.{Turn}
 use Rattle.tp_show.specs.declared.turn.Turn.TheVariants.{Went, Finished, Contradictory, Undetermined, StateLimit, InputMissing, Over}
-use Rattle.tp_run.specs.History.{RunEndsWith}
-use Rattle.tp_run.specs.States.{Plan, globals_of, setting, IsPictureOf, StateGoesOn, StateEnds, StatesLead, LeadsTo}
-use Rattle.tp_run.specs.PicksOfRun.{picks_led, beginning_of, picks_before, picks_of_run}
+use Rattle.tp_run.specs.History.{RunEndsWith, picks_led, beginning_of, picks_before, picks_of_run, Plan, globals_of, setting, IsPictureOf, StateGoesOn, StateEnds, StatesLead, LeadsTo}
 use Rattle.tp_step_laws.specs.Maps.{renamed_cell}
 use Rattle.tp_step_laws.specs.Alike.{Alike}
 use Rattle.tp_step_laws.proofs.AdvanceAlike.{alike_moments_advance}

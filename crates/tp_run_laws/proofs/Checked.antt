@@ -18,11 +18,10 @@ use Rattle.tp_meaning.specs.Derived.{next_equals_of, repeat_of}
 use Rattle.tp_meaning.specs.Interval.{ProgramTree}
 use Rattle.tp_check.specs.declared.refusal.CheckRefusal.TheVariants.{Twice}
 use Rattle.tp_scope.specs.Scope.{Names, VisibleNames, Called, with_binder, with_binders, binder_of, bound_or_global, called_of}
-use Rattle.tp_scope.specs.Names.{has_repeat, twice_defined, names_of}
-use Rattle.tp_scope.specs.Definitions.{signatures_of, AreStates}
+use Rattle.tp_scope.specs.Names.{has_repeat, twice_defined, names_of, signatures_of, AreStates}
 use Rattle.tp_scope.specs.Phrases.{is_place_phrase, is_place_kind, phrase_count, nexts_of, behind_nexts, at_of}
 use Rattle.tp_check.specs.Outcome.{CheckOutcome, mapped, both, three, not_expression}
-use Rattle.tp_check.specs.Positions.{named_expr, operation_of, operation_at, called_expr, expr_of, expr_of_kind, exprs_in, place_phrase, port_phrase, arguments_in, equation_of, is_state_in, state_in, negation_in, binary_in, composition_of, composed_or, bare_of, called_formula, exists_of, formula_of, formula_of_kind, formulas_in}
+use Rattle.tp_check.specs.Positions.{named_expr, operation_of, operation_at, called_expr, expr_of, expr_of_kind, exprs_in, place_phrase, port_phrase, arguments_in, equation_of, is_state_in, state_in, negation_in, binary_in, bare_of, called_formula, exists_of, formula_of, formula_of_kind, formulas_in}
 use Rattle.tp_check.specs.Program.{expr_where, definition_with, definition_in, definitions_in, outermost, program_over, ChecksTo}
 use Rattle.tp_check.proofs.NameLaws.{globals_stand_in_source}
 use Rattle.tp_show.specs.Line.{IsOneLine}
@@ -143,19 +142,6 @@ bare_made : (word : Bare) → Made (bare_of word)
 bare_made Empty = tt
 bare_made x = tt
 
--- a formula of two is printable where both are
-abbrev Composes : (FormulaTree → FormulaTree → FormulaTree) → Type 0
-Composes make = (w v : FormulaTree) → Made w → Made v → Made (make w v)
-
-composed_made : (make : Option (FormulaTree → FormulaTree → FormulaTree)) (w v other : CheckOutcome FormulaTree) → IfSome make Composes → IfOk w Made → IfOk v Made → IfOk other Made → IfOk (composed_or make w v other) Made
-composed_made (Some make) w v other composes p q r = both_ok make w v Made Made Made p q composes
-composed_made None w v other composes p q r = r
-
-compositions_made : (o : Op) → IfSome (composition_of o) Composes
-compositions_made op.Chop = λ w v a b. (a, b)
-compositions_made op.Proj = λ w v a b. (a, b)
-compositions_made x = tt
-
 exists_made : (xs : Names) (w : FormulaTree) → AreLines xs → Made w → Made (exists_of xs w)
 exists_made [] w lines h = h
 exists_made (x ∷ xs) w lines h = (All-head IsOneLine x xs lines, exists_made xs w (All-tail IsOneLine x xs lines) h)
@@ -197,9 +183,11 @@ mutual
   formula_kind_made names at (k.conjunction ps) lines = mapped_ok _ (formulas_in names ps) AllMade Made (formulas_made names ps lines) (λ ws h. h)
   formula_kind_made names at (k.truth true) lines = tt
   formula_kind_made names at (k.negation p) lines = negation_made names at p
-  formula_kind_made names at (k.binary o l r) lines =
-      composed_made (composition_of o) (formula_of names l) (formula_of names r) (binary_in names at o l r) (compositions_made o)
-      (formula_made names l (front (phrase_names l) (phrase_names r) lines)) (formula_made names r (back (phrase_names l) (phrase_names r) lines)) (binary_made names at o l r)
+  formula_kind_made names at (k.binary op.Chop l r) lines =
+      both_ok _ (formula_of names l) (formula_of names r) Made Made Made (formula_made names l (front (phrase_names l) (phrase_names r) lines)) (formula_made names r (back (phrase_names l) (phrase_names r) lines)) (λ w v a b. (a, b))
+  formula_kind_made names at (k.binary op.Proj l r) lines =
+      both_ok _ (formula_of names l) (formula_of names r) Made Made Made (formula_made names l (front (phrase_names l) (phrase_names r) lines)) (formula_made names r (back (phrase_names l) (phrase_names r) lines)) (λ w v a b. (a, b))
+  formula_kind_made names at (k.binary o l r) lines = binary_made names at o l r
   formula_kind_made names at (k.bare word) lines = bare_made word
   formula_kind_made names at (k.next w) lines = mapped_ok _ (formula_of names w) Made Made (formula_made names w lines) (λ x h. h)
   formula_kind_made names at (k.form f.Always (phrase_then w no_phrase)) lines = mapped_ok _ (formula_of names w) Made Made (formula_made names w (front (phrase_names w) [] lines)) (λ x h. h)

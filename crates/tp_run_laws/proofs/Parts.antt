@@ -19,8 +19,8 @@ use Rattle.tp_store.specs.Known.{NoClash, global_variable, known, all_known, and
 use Rattle.tp_store.proofs.Paths.{same_variable-decides}
 use Rattle.tp_store.proofs.Members.{In, in_left, in_right, kept_in, in_kept, apart_in, excluded_by}
 use Rattle.tp_scene.proofs.Globals.{of_variables_in}
-use Rattle.tp_show.specs.Parts.{is_before, AreInOrder, is_deeper, is_inside, is_written, is_value, shape_part, known_part, parts_by, line_parts}
-use Rattle.tp_show.specs.Line.{AreFactsOf}
+use Rattle.tp_show.specs.Line.{is_before, AreInOrder, is_deeper, is_inside, is_written, is_value, shape_part, known_part, parts_by, line_parts}
+use Rattle.tp_show.specs.FactsOf.{AreFactsOf}
 use Rattle.tp_show.specs.TraceOfRun.{IsPathWithinLimits, IsPartWithinLimits, IsShapeWithinLimits}
 use Rattle.tp_show.proofs.FactOrder.{is_before-order}
 use Rattle.tp_show.proofs.PartLemmas.{one_variable}

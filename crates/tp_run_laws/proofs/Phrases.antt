@@ -23,8 +23,7 @@ use Rattle.tp_show.specs.TraceOfRun.{HasNameOnOneLine}
 use Rattle.tp_show.specs.Line.{IsOneLine}
 use Rattle.tp_show.proofs.PrintedBytes.{decimal_plain, signed_plain, text_plain, indices_plain}
 use Rattle.tp_show.proofs.PrintedLines.{plain_one}
-use Rattle.tp_residual.specs.Words.{BoundName, stands_for, named, Vocabulary, naming, variable_spelling, path_spelling, binding_spelling, bound_spelling, definition_name}
-use Rattle.tp_residual.specs.Phrases.{phrase_operator, enclosed, operation_spelling, called_with, expr_level, expr_spelling, exprs_spelling, all_exprs_spelling, operand_expr, nexts_spelling, from_spelling, counted_spelling, formula_level, formula_spelling, formulas_spelling, all_formulas_spelling}
+use Rattle.tp_residual.specs.Phrases.{BoundName, stands_for, named, Vocabulary, naming, variable_spelling, path_spelling, binding_spelling, bound_spelling, definition_name, phrase_operator, enclosed, operation_spelling, called_with, expr_level, expr_spelling, exprs_spelling, all_exprs_spelling, operand_expr, nexts_spelling, from_spelling, counted_spelling, formula_level, formula_spelling, formulas_spelling, all_formulas_spelling}
 use Rattle.tp_residual.specs.Residual.{leaf_level, holder_level, entries_level, text_before, words_with, leaf_spelling, holder_spelling, entries_spelling, later_spelling}
 use Rattle.tp_run_laws.specs.Printable.{FormulaIsPrintable, FormulasArePrintable, DefinitionIsPrintable, LeafIsPrintable, HolderIsPrintable, EntriesArePrintable}
 

@@ -9,8 +9,7 @@ use Rattle.tp_scene.specs.Beginning.{first_moment}
 use Rattle.tp_show.specs.declared.turn.Picture.{Picture}
 use Rattle.tp_show.specs.declared.turn.Turn.{Turn}
 use Rattle.tp_show.specs.declared.turn.Turn.TheVariants.{Went, Finished, Contradictory, Undetermined, StateLimit, InputMissing, Over}
-use Rattle.tp_run.specs.States.{Plan, globals_of, setting, AreGlobals, StateGoesOn, StatesLead, LeadsTo, ReachesLimit, limit_moment}
-use Rattle.tp_run.specs.History.{RunEndsWith}
+use Rattle.tp_run.specs.History.{Plan, globals_of, setting, AreGlobals, StateGoesOn, StatesLead, LeadsTo, ReachesLimit, limit_moment, RunEndsWith}
 use Rattle.tp_run_laws.specs.Printable.{ProgramIsPrintable, InputsArePrintable}
 use Rattle.tp_run_laws.specs.PrintableRuns.{IsWrittenWithinLimits, RunIsPrintable, RunsArePrintable}
 use Rattle.tp_run_laws.proofs.Kept.{printable_same, printable_through}

@@ -11,7 +11,7 @@ use Rattle.tp_lex.specs.Pieces.{IsNoWord, BeginsPiece, word, upper, lower, numbe
 use Rattle.tp_lex.specs.Tokens.{ReadsTokens, Ending, Whole, gap, lexeme}
 use Rattle.tp_lex.specs.Names.{own_names, token_names, IsNameText}
 use Rattle.tp_lex.proofs.NameLemmas.{names_are_spelled}
-use Rattle.tp_show.specs.TraceLine.{AreNameBytes, IsVariableName}
+use Rattle.tp_show.specs.Trace.{AreNameBytes, IsVariableName}
 use Rattle.tp_run_laws.specs.PrintableRuns.{TokenNamesAreOfVariables}
 
 -- not too long, and no word

@@ -5,7 +5,7 @@ use Rattle.tp_show.specs.declared.turn.Picture.{Picture}
 use Rattle.tp_show.specs.declared.turn.Turn.{Turn}
 use Rattle.tp_run.specs.Same.{SamePictures, SameEnd}
 use Rattle.tp_run.specs.SettledStates.{led_states}
-use Rattle.tp_run.specs.States.{Plan, setting, StatesLead}
+use Rattle.tp_run.specs.History.{Plan, setting, StatesLead}
 use Rattle.tp_run.proofs.OneState.{kinds, Orderly, EndsAt, end_alike, end_same, same_picture, cant_go, next_orderly}
 use Rattle.tp_step_laws.specs.Alike.{Alike}
 use Rattle.tp_step_laws.proofs.AdvanceAlike.{alike_moments_advance}

@@ -3,8 +3,7 @@ use Rattle.std.specs.Prelude.{List}
 use Rattle.tp_meaning.specs.Fits.{ProgramFits}
 use Rattle.tp_show.specs.declared.turn.Picture.{Picture}
 use Rattle.tp_show.specs.declared.turn.Turn.{Turn}
-use Rattle.tp_run.specs.History.{RunEndsWith}
-use Rattle.tp_run.specs.States.{Plan, globals_of}
+use Rattle.tp_run.specs.History.{RunEndsWith, Plan, globals_of}
 use Rattle.tp_run.specs.Same.{SamePictures, SameEnd}
 use Rattle.tp_inputs.specs.Within.{InputsWithin}
 

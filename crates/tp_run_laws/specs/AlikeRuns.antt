@@ -9,8 +9,7 @@ use Rattle.tp_scene.specs.Fits.{MomentFits}
 use Rattle.tp_show.specs.declared.turn.Picture.{Picture}
 use Rattle.tp_show.specs.declared.turn.Turn.{Turn}
 use Rattle.tp_show.specs.declared.turn.Turn.TheVariants.{Went, Finished, Contradictory, Undetermined, StateLimit, InputMissing, Over}
-use Rattle.tp_run.specs.History.{RunEndsWith, end_store}
-use Rattle.tp_run.specs.States.{Plan, globals_of}
+use Rattle.tp_run.specs.History.{RunEndsWith, end_store, Plan, globals_of}
 use Rattle.tp_run.specs.SettledStates.{SettledState, settled_states}
 use Rattle.tp_step_laws.specs.Maps.{Renaming, FixesBelow, renamed_cell}
 use Rattle.tp_step_laws.specs.Alike.{Alike}

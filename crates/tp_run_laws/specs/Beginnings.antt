@@ -3,9 +3,7 @@ use Rattle.std.specs.Prelude.{◌≡◌, ℕ, ◌<◌, List, ◌∷◌, ◌++◌
 use Rattle.tp_scene.specs.Pick.{Moment, Leads}
 use Rattle.tp_show.specs.declared.turn.Picture.{Picture}
 use Rattle.tp_show.specs.declared.turn.Turn.{Turn}
-use Rattle.tp_run.specs.History.{RunEndsWith}
-use Rattle.tp_run.specs.States.{Plan, globals_of, setting, LeadsTo}
-use Rattle.tp_run.specs.PicksOfRun.{picks_before, picks_of_run}
+use Rattle.tp_run.specs.History.{RunEndsWith, picks_before, picks_of_run, Plan, globals_of, setting, LeadsTo}
 use Rattle.tp_run.specs.Same.{SameEnd, FailsNowhere}
 use Rattle.tp_run_laws.specs.Agree.{IsOrderlyPlan}
 

@@ -16,12 +16,11 @@ use Rattle.tp_residual.specs.Residual.{residual_phrase}
 use Rattle.tp_check.specs.Program.{ChecksTo}
 use Rattle.tp_show.specs.declared.turn.Picture.{Picture}
 use Rattle.tp_show.specs.declared.turn.Turn.{Turn}
-use Rattle.tp_show.specs.Parts.{line_parts}
-use Rattle.tp_show.specs.Line.{AreFactsOf, IsOneLine}
-use Rattle.tp_show.specs.TraceLine.{IsVariableName}
+use Rattle.tp_show.specs.Line.{line_parts, IsOneLine}
+use Rattle.tp_show.specs.FactsOf.{AreFactsOf}
+use Rattle.tp_show.specs.Trace.{IsVariableName}
 use Rattle.tp_show.specs.TraceOfRun.{IsPartWithinLimits, HasNameOnOneLine, NamesPortOnOneLine}
-use Rattle.tp_run.specs.States.{Plan}
-use Rattle.tp_run.specs.History.{RunEndsWith, end_store}
+use Rattle.tp_run.specs.History.{Plan, RunEndsWith, end_store}
 use Rattle.tp_run_laws.specs.Printable.{DefinitionIsPrintable, ProgramIsPrintable, EntriesArePrintable, InputsArePrintable}
 
 -- Each name among the tokens of a text is a variable's name.

@@ -2,7 +2,7 @@
 ghost use Rattle.tp_run_laws.specs.Agree.{RunsAgree};
 ghost use Rattle.tp_run_laws.specs.AlikeRuns.{AllRunsAreAlike};
 ghost use Rattle.tp_run_laws.specs.Beginnings.{BeginningsGoOn};
-ghost use Rattle.tp_run.specs.States.{Plan};
+ghost use Rattle.tp_run.specs.History.{Plan};
 
 /// Two runs have the same settled states, the same shows, and the same end, whatever the order of picks.
 pub fn runs_agree()

@@ -1,7 +1,6 @@
 // What several tests make.
 ghost use Rattle.std.specs.Prelude.{◌≡◌, IfOk, false};
-ghost use Rattle.tp_show.specs.Parts.{line_parts};
-ghost use Rattle.tp_show.specs.Read.{plain_parts};
+ghost use Rattle.tp_show.specs.Line.{line_parts, plain_parts};
 
 use std::alloc::Global;
 use tp_io::Content;

@@ -4,7 +4,7 @@ ghost use Rattle.tp_kernel.specs.Read.{formula_tree};
 ghost use Rattle.tp_meaning.specs.Fits.{FormulaFits, ProgramFits};
 ghost use Rattle.tp_check.specs.Read.{program_tree};
 ghost use Rattle.tp_run.specs.Runs.{IsRunOf};
-ghost use Rattle.tp_run.specs.States.{Plan};
+ghost use Rattle.tp_run.specs.History.{Plan};
 
 use crate::expected::same_text;
 use crate::making::{no_picture, path};

@@ -3,9 +3,8 @@ ghost use Rattle.std.specs.Prelude.{◌≡◌, ◌<◌, OnOk};
 ghost use Rattle.tp_meaning.specs.Fits.{ProgramFits};
 ghost use Rattle.tp_check.specs.Read.{program_tree};
 ghost use Rattle.tp_run.specs.Runs.{IsRunOf};
-ghost use Rattle.tp_run.specs.States.{Plan};
-ghost use Rattle.tp_show.specs.Parts.{line_parts};
-ghost use Rattle.tp_show.specs.Read.{plain_parts};
+ghost use Rattle.tp_run.specs.History.{Plan};
+ghost use Rattle.tp_show.specs.Line.{line_parts, plain_parts};
 
 use crate::expected::same_bytes;
 use crate::making::no_picture;

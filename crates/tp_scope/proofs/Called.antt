@@ -12,7 +12,7 @@ use Rattle.tp_tree.specs.Read.{definition_tree}
 use Rattle.tp_scope.specs.Scope as plain
 use Rattle.tp_scope.specs.Scope.{Names, Called, called_from, called_of}
 use Rattle.tp_scope.specs.declared.directory.Signature.{Signature}
-use Rattle.tp_scope.specs.Definitions.{signatures_of}
+use Rattle.tp_scope.specs.Names.{signatures_of}
 use Rattle.tp_scope.specs.Seen.{signature_seen}
 use Rattle.tp_scope.proofs.Apart.{one_later}
 

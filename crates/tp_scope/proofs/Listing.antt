@@ -17,7 +17,7 @@ use Rattle.tp_tree.specs.Read.{phrase_tree, kind_tree, definition_tree}
 use Rattle.tp_tree.specs.Equations.{tree_is}
 use Rattle.tp_scope.specs.Scope.{Names}
 use Rattle.tp_scope.specs.Phrases.{calls_in, calls_in_kind, calls_in_all}
-use Rattle.tp_scope.specs.Definitions.{CallsDefinition}
+use Rattle.tp_scope.specs.Names.{CallsDefinition}
 use Rattle.tp_scope.specs.Callers.{numbers_among, number_lists, IsListed, IsListedToo, AreCallers}
 
 -- ---- lists

@@ -10,7 +10,7 @@ use Rattle.std.specs.Option.{option_map}
 use Rattle.std.specs.Str.{bytes_eq}
 use Rattle.tp_tree.specs.Tree.{DefinitionTree}
 use Rattle.tp_scope.specs.Phrases.{is_state_phrase}
-use Rattle.tp_scope.specs.Definitions.{CallsDefinition, Reaches, itself, by_call, IsStateDefinition, AreStates}
+use Rattle.tp_scope.specs.Names.{CallsDefinition, Reaches, itself, by_call, IsStateDefinition, AreStates}
 use Rattle.tp_scope.specs.Callers.{own_states, AreCallers}
 use Rattle.tp_scope.proofs.Listing.{in_none, first_in, later_in, first_or_later, set_here}
 

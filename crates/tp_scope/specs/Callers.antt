@@ -7,7 +7,7 @@ use Rattle.std.specs.declared.vec.Vec.{Vec}
 use Rattle.tp_tree.specs.Tree.{DefinitionTree}
 use Rattle.tp_scope.specs.Scope.{Names}
 use Rattle.tp_scope.specs.Phrases.{is_state_phrase}
-use Rattle.tp_scope.specs.Definitions.{CallsDefinition}
+use Rattle.tp_scope.specs.Names.{CallsDefinition}
 
 -- whether each body says something of one state, whatever it calls
 abbrev pub own_states : List DefinitionTree → List Bool

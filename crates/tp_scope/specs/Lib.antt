@@ -1,6 +1,5 @@
 pub mod Scope
-pub mod Names
 pub mod Phrases
-pub mod Definitions
+pub mod Names
 pub mod Callers
 pub mod Seen

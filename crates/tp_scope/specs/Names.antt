@@ -1,11 +1,13 @@
--- The names of a program's variables, and names that stand twice.
-use Rattle.std.specs.Prelude.{◌≡◌, ℕ, List, [], ◌∷◌, ◌++◌, ◌||◌, Bool, false, if◌then◌else◌, fold, Option, Some, None}
-use Rattle.std.specs.List.{list_any}
+-- The names of a program's variables; names that stand twice; and which definitions of a source are
+-- state definitions.
+use Rattle.std.specs.Prelude.{◌≡◌, ℕ, List, [], ◌∷◌, ◌++◌, ◌||◌, Bool, false, if◌then◌else◌, fold, Option, Some, None, ◌↔◌, true, length, slice_get, map}
+use Rattle.std.specs.List.{list_any, position}
 use Rattle.std.specs.Str.{bytes_eq}
 use Rattle.tp_value.specs.Globals.{with_name}
 use Rattle.tp_tree.specs.declared.operator.Form.TheVariants as f
 use Rattle.tp_tree.specs.Tree.{PhraseTree, phrase, KindTree, number, truth, name, list, size, index, minus, next, negation, binary, conjunction, choice, choice_else, while, repeat, for, forall, exists, bare, form, call, PhraseTrees, no_phrase, phrase_then, DefinitionTree, SourceTree}
-use Rattle.tp_scope.specs.Scope.{Names, bound_in, binder_of}
+use Rattle.tp_scope.specs.Scope.{Names, bound_in, binder_of, Signature, Called, called_of}
+use Rattle.tp_scope.specs.Phrases.{is_state_phrase, calls_in}
 
 -- whether one of these names stands there twice
 abbrev pub has_repeat : Names → Bool
@@ -82,3 +84,45 @@ names_in_bodies (d ∷ ds) = names_in (bound_in [] d.parameters) d.body ++ names
 -- the names of a source's variables, each once and in the order of their first occurrences
 abbrev pub names_of : SourceTree → Names
 names_of source = names_with [] (names_in_bodies source.definitions ++ names_in [] source.main)
+
+-- what calls know of definitions, where `states` says of each whether it is a state definition
+abbrev pub signatures_of : List DefinitionTree → (states : List Bool) → List Signature
+signatures_of (d ∷ ds) (b ∷ bs) =
+    record { name = d.name; parameters = d.parameters; is_state = b } ∷ signatures_of ds bs
+signatures_of [] bs = []
+signatures_of (d ∷ ds) [] = []
+
+-- whether a call of this name calls a state definition
+abbrev pub is_state_called : Option Called → Bool
+is_state_called (Some c) = c.signature.is_state
+is_state_called None = false
+
+abbrev pub calls_state : List Signature → List ℕ → Bool
+calls_state definitions x = is_state_called (called_of definitions x)
+
+-- The body of the definition with the number i calls the one with the number j, which is the first
+-- of its name.
+pub record CallsDefinition (ds : List DefinitionTree) (i j : ℕ) : Type 0 where
+  pub caller : DefinitionTree
+  pub name : List ℕ
+  pub place : ℕ
+  pub is_caller : slice_get ds i ≡ Some caller
+  pub calls : slice_get (calls_in caller.body) place ≡ Some name
+  pub is_called : position (bytes_eq name) (map (λ d. d.name) ds) ≡ Some j
+
+-- it is reached from there by calls, by none as well
+pub data Reaches (ds : List DefinitionTree) : (from to : ℕ) → Type 0 where
+  itself : (i : ℕ) → Reaches ds i i
+  by_call : (i j k : ℕ) → CallsDefinition ds i j → Reaches ds j k → Reaches ds i k
+
+-- A state definition: each body that is reached from it says something of one state, whatever it
+-- calls.
+abbrev pub IsStateDefinition : List DefinitionTree → ℕ → Type 0
+IsStateDefinition ds i =
+    (j : ℕ) (d : DefinitionTree) → Reaches ds i j → slice_get ds j ≡ Some d
+    → is_state_phrase (λ x. true) d.body ≡ true
+
+-- `states` says of each of the definitions whether it is a state definition
+pub record AreStates (ds : List DefinitionTree) (states : List Bool) : Type 0 where
+  pub each : length states ≡ length ds
+  pub right : (i : ℕ) (b : Bool) → slice_get states i ≡ Some b → (b ≡ true) ↔ IsStateDefinition ds i

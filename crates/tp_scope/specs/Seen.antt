@@ -3,8 +3,7 @@ use Rattle.std.specs.Prelude.{◌≡◌, ℕ, ◌+◌, Bool, true, List, [], len
 use Rattle.tp_tree.specs.declared.phrase.Definitions.{Definitions}
 use Rattle.tp_scope.specs.Scope.{Names, Called, VisibleNames, bound_in, binder_of}
 use Rattle.tp_scope.specs.Scope as plain
-use Rattle.tp_scope.specs.Names.{has_repeat}
-use Rattle.tp_scope.specs.Definitions.{calls_state}
+use Rattle.tp_scope.specs.Names.{has_repeat, calls_state}
 use Rattle.tp_scope.specs.declared.directory.Signature.{Signature}
 use Rattle.tp_scope.specs.declared.directory.Callee.{Callee}
 use Rattle.tp_scope.specs.declared.directory.Directory.{Directory}

@@ -3,8 +3,7 @@ ghost use Rattle.std.specs.Prelude.{◌≡◌, map, length, nat_eq, IfOk};
 ghost use Rattle.tp_tree.specs.Read.{definition_tree, phrase_trees};
 ghost use Rattle.tp_scope.specs.Phrases.{phrase_count};
 ghost use Rattle.tp_scope.specs.Scope.{called_of};
-ghost use Rattle.tp_scope.specs.Definitions.{signatures_of};
-ghost use Rattle.tp_scope.specs.Names.{AreApart};
+ghost use Rattle.tp_scope.specs.Names.{signatures_of, AreApart};
 ghost use Rattle.tp_scope.specs.Seen.{IsFound, signatures_seen, names_of_definitions};
 
 use crate::count::as_number;

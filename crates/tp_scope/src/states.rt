@@ -3,7 +3,7 @@ ghost use Rattle.std.specs.Prelude.{◌≡◌, ◌<◌, ◌++◌, ◌∷◌, ◌
 ghost use Rattle.std.specs.List.{All, Contains};
 ghost use Rattle.tp_tree.specs.Read.{definition_tree, phrase_tree, phrase_trees};
 ghost use Rattle.tp_scope.specs.Phrases.{calls_in, calls_in_all};
-ghost use Rattle.tp_scope.specs.Definitions.{AreStates};
+ghost use Rattle.tp_scope.specs.Names.{AreStates};
 ghost use Rattle.tp_scope.specs.Callers.{own_states, numbers_among, number_lists, IsListedToo, AreCallers};
 ghost use Rattle.tp_scope.specs.Seen.{names_of_definitions};
 

@@ -21,9 +21,8 @@ use Rattle.tp_scene.specs.declared.answer.Clash.{Clash}
 use Rattle.tp_scene.specs.declared.answer.Clash.TheVariants.{Facts, Marks, False, NoValue}
 use Rattle.tp_show.specs.declared.turn.Turn.{Turn}
 use Rattle.tp_show.specs.declared.turn.Turn.TheVariants.{Went, Finished, Contradictory, Undetermined, StateLimit, InputMissing, Over}
-use Rattle.tp_show.specs.Texts.{global_name, index_text, shaped_text, variable_text, variable_path_text, variable_fact_text, cell_text, comes_first, pair_text, fault_text, clash_text}
-use Rattle.tp_show.specs.EndLine.{state_text, limit_text, last_words}
-use Rattle.tp_show.specs.TraceLine.{IsVariableName}
+use Rattle.tp_show.specs.Texts.{global_name, index_text, shaped_text, variable_text, variable_path_text, variable_fact_text, cell_text, comes_first, pair_text, fault_text, clash_text, state_text, limit_text, last_words}
+use Rattle.tp_show.specs.Trace.{IsVariableName}
 use Rattle.tp_show.specs.TraceOfRun.{AreVariableNames, NamesPortOnOneLine, HasNameOnOneLine, EndLinesAreOneLine}
 use Rattle.tp_show.specs.Line.{IsOneLine}
 use Rattle.tp_show.proofs.PrintedBytes.{decimal_plain, signed_plain, name_plain, indices_plain}

@@ -15,7 +15,7 @@ use Rattle.tp_value.specs.declared.value.Shape.{Shape}
 use Rattle.tp_value.specs.declared.value.Shape.TheVariants.{Num, Truth, Items}
 use Rattle.tp_store.specs.Known.{Variable, IsVariableOf, global_variable, name_where, name_of}
 use Rattle.tp_show.specs.Texts.{global_name, index_text, truth_text, shaped_text, variable_text, variable_path_text, variable_fact_text}
-use Rattle.tp_show.specs.Parts.{shape_part}
+use Rattle.tp_show.specs.Line.{shape_part}
 use Rattle.tp_show.specs.Told.{is_word_byte, IsWord, AreNames, FitsIn64Bits, IsPartInRange}
 use Rattle.tp_show.specs.EndsTold.{AreStoreVariables, IsPlaceOf, IsFactOf, VariablesToldAlike, global, local, PlacesToldAlike, FactsToldAlike}
 use Rattle.tp_show.proofs.ReadWordLemmas.{EndsWord, word_read, is_low, decimal_is_word, rest_is, heads_apart}

@@ -15,8 +15,7 @@ use Rattle.tp_scene.specs.declared.answer.Clash.{Clash}
 use Rattle.tp_scene.specs.declared.answer.Clash.TheVariants.{Facts, Marks, False, NoValue}
 use Rattle.tp_show.specs.declared.turn.Turn.{Turn}
 use Rattle.tp_show.specs.declared.turn.Turn.TheVariants.{Went, Finished, Contradictory, Undetermined, StateLimit, InputMissing, Over}
-use Rattle.tp_show.specs.Texts.{variable_fact_text, cell_text, comes_first, pair_text, fault_text, clash_text}
-use Rattle.tp_show.specs.EndLine.{limit_text, end_line}
+use Rattle.tp_show.specs.Texts.{variable_fact_text, cell_text, comes_first, pair_text, fault_text, clash_text, limit_text, end_line}
 use Rattle.tp_show.specs.Told.{is_word_byte, IsWord, AreNames, FitsIn64Bits}
 use Rattle.tp_show.specs.EndsTold.{AreStoreVariables, IsFactOf, IsCellOf, IsClashOf, IsTurnOf, FactsToldAlike, CellsToldAlike, part, end, ClashesToldAlike, in_order, turned, marks, is_false, no_value, EndsToldAlike, went, finished, contradictory, undetermined, state_limit, input_missing, over, IsAtReductions, EndLinesTell}
 use Rattle.tp_show.proofs.ReadWordLemmas.{heads_apart}

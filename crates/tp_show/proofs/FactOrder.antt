@@ -9,7 +9,7 @@ use Rattle.std.proofs.lemmas.Cmp.{nat_cmp_total, nat_list_cmp_total, on_total, t
 use Rattle.std.proofs.lemmas.List.Sorted.{ranks_by}
 use Rattle.tp_value.specs.declared.path.Fact.{Fact}
 use Rattle.tp_store.specs.Known.{is_lesser}
-use Rattle.tp_show.specs.Parts.{is_before}
+use Rattle.tp_show.specs.Line.{is_before}
 
 -- the order of facts by their numbers and indices
 abbrev pub order_of : Fact → Fact → Ordering

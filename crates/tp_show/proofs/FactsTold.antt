@@ -13,8 +13,8 @@ use Rattle.tp_store.specs.Known.{is_lesser, Variable, IsVariableOf, global_varia
 use Rattle.tp_store.proofs.Paths.{fact_from}
 use Rattle.tp_store.proofs.Members.{In, in_left, in_right, in_append}
 use Rattle.tp_scene.proofs.Globals.{of_variables_in}
-use Rattle.tp_show.specs.Parts.{is_before, AreInOrder, is_inside, is_written, is_value, LinePartTree, valued, measured, shape_part, known_part, parts_by, line_parts}
-use Rattle.tp_show.specs.Line.{AreFactsOf}
+use Rattle.tp_show.specs.Line.{is_before, AreInOrder, is_inside, is_written, is_value, LinePartTree, valued, measured, shape_part, known_part, parts_by, line_parts}
+use Rattle.tp_show.specs.FactsOf.{AreFactsOf}
 use Rattle.tp_show.proofs.PartLemmas.{one_variable}
 use Rattle.tp_show.proofs.ToldLemmas.{beyond, here, HasFact, Tells, AreTelling, all_told, told_in, all_in, in_order_same}
 use Rattle.tp_show.proofs.PathOrder.{IsPast, later_item, lesser_deeper, is_past_more, past_then_before, past_outside, before_by, before_more, before_past}

@@ -5,7 +5,7 @@ use Rattle.tp_value.specs.declared.path.Path.{Path}
 use Rattle.tp_value.specs.declared.path.Fact.{Fact}
 use Rattle.tp_store.specs.Known.{Full}
 use Rattle.tp_store.proofs.Members.{In}
-use Rattle.tp_show.specs.Parts.{is_written, is_value, known_part, parts_by}
+use Rattle.tp_show.specs.Line.{is_written, is_value, known_part, parts_by}
 
 -- where the same is known of each fact's path, the parts are the same
 pub parts_same : (k l : Path → Full) (last : Option Path) (fs : List Fact) → ((f : Fact) → In f fs → k f.path ≡ l f.path) → parts_by k last fs ≡ parts_by l last fs

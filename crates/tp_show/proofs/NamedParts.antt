@@ -23,11 +23,10 @@ use Rattle.tp_store.proofs.Members.{In}
 use Rattle.tp_scene.proofs.Globals.{of_variables_in}
 use Rattle.tp_show.specs.declared.named_fact.NamedFact.{NamedFact}
 use Rattle.tp_show.specs.Texts.{global_name, index_text, path_text}
-use Rattle.tp_show.specs.Parts.{LinePartTree, valued, measured, part_text, spaced_text}
-use Rattle.tp_show.specs.Line.{AreFactsOf}
+use Rattle.tp_show.specs.Line.{LinePartTree, valued, measured, part_text, spaced_text}
+use Rattle.tp_show.specs.FactsOf.{AreFactsOf}
 use Rattle.tp_show.specs.Told.{IsPartOf}
-use Rattle.tp_show.specs.TraceFacts.{TracePart, has_value, has_length, some_variable, path_in, fact_named, part_facts, parts_facts, fact_in, have_clash, named_fact}
-use Rattle.tp_show.specs.TraceLine.{IsVariableName, SpellsIndices, none, index, SpellsPath, SpellsPart, value, list_length, SpellsParts, part}
+use Rattle.tp_show.specs.Trace.{TracePart, has_value, has_length, some_variable, path_in, fact_named, part_facts, parts_facts, fact_in, have_clash, named_fact, IsVariableName, SpellsIndices, none, index, SpellsPath, SpellsPart, value, list_length, SpellsParts, part}
 use Rattle.tp_show.specs.TraceOfRun.{AreVariableNames, IsWithinIndexLimit, IsPathWithinLimits, IsPartWithinLimits}
 use Rattle.tp_show.proofs.PartLemmas.{named}
 use Rattle.tp_show.proofs.TraceFiled.{ToldIn, IsFiled, filed_free}

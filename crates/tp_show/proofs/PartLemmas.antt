@@ -11,8 +11,7 @@ use Rattle.tp_value.specs.declared.path.VarId.{VarId}
 use Rattle.tp_value.specs.declared.path.Path.{Path}
 use Rattle.tp_store.specs.Known.{Variable, IsVariableOf, global_variable}
 use Rattle.tp_show.specs.Texts.{global_name, index_text, path_text}
-use Rattle.tp_show.specs.Parts.{LinePartTree, valued, measured, part_text, spaced_text}
-use Rattle.tp_show.specs.Line.{shown_value}
+use Rattle.tp_show.specs.Line.{LinePartTree, valued, measured, part_text, spaced_text, shown_value}
 use Rattle.tp_show.specs.Told.{is_word_byte, AreNames, FitsIn64Bits, IsPartOf, IsPartInRange, ArePartsInRange}
 use Rattle.tp_show.proofs.ReadWordLemmas.{EndsWord, word_read, is_low, decimal_is_word, rest_is, heads_apart}
 use Rattle.tp_show.proofs.ReadValueLemmas.{value_read}

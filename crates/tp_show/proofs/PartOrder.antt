@@ -5,8 +5,7 @@ use Rattle.std.specs.List.Sorted.{IsPermutation}
 use Rattle.std.proofs.lemmas.List.Sorted.{IsPermutation-map}
 use Rattle.std.proofs.lemmas.List.{append_cancel_left}
 use Rattle.tp_show.specs.declared.named_fact.NamedFact.{NamedFact}
-use Rattle.tp_show.specs.TraceFacts.{TracePart, part_facts, parts_facts}
-use Rattle.tp_show.specs.TraceLine.{SpellsParts, none, part, state_opening}
+use Rattle.tp_show.specs.Trace.{TracePart, part_facts, parts_facts, SpellsParts, none, part, state_opening}
 use Rattle.tp_show.specs.TraceArranged.{PartText, OrderOfPartsTellsNothing}
 use Rattle.tp_show.proofs.TraceSpelled.{parts_unique}
 use Rattle.tp_show.proofs.Reordered.{IsPermutation-flat_map, clash_reordered}

@@ -9,7 +9,7 @@ use Rattle.tp_value.specs.declared.path.Fact.{Fact}
 use Rattle.tp_store.specs.Facts.{same_variable}
 use Rattle.tp_store.specs.Known.{is_lesser}
 use Rattle.tp_store.proofs.Paths.{same_variable-decides}
-use Rattle.tp_show.specs.Parts.{is_before, is_deeper, is_inside}
+use Rattle.tp_show.specs.Line.{is_before, is_deeper, is_inside}
 
 -- the indices first differ at a place where these have the greater one
 abbrev pub ArePast : List ℕ → List ℕ → Type 0

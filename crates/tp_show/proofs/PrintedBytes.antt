@@ -7,7 +7,7 @@ use Rattle.tp_value.specs.Tree.{Tree, Trees, num, truth, list, nil, cons}
 use Rattle.tp_value.specs.Written.{text_of, items_text, later_text}
 use Rattle.tp_lex.specs.Bytes.{is_name_byte}
 use Rattle.tp_show.specs.Texts.{index_text}
-use Rattle.tp_show.specs.TraceLine.{AreNameBytes}
+use Rattle.tp_show.specs.Trace.{AreNameBytes}
 use Rattle.tp_show.proofs.TraceDigits.{AllPass}
 use Rattle.tp_show.proofs.TraceNames.{passes_append}
 

@@ -18,9 +18,8 @@ use Rattle.tp_show.specs.declared.turn.Turn.{Turn}
 use Rattle.tp_show.specs.declared.turn.Turn.TheVariants.{Went, Finished, Contradictory, Undetermined, StateLimit, InputMissing, Over}
 use Rattle.tp_show.specs.declared.named_fact.NamedFact.{NamedFact}
 use Rattle.tp_show.specs.Line.{shown_value, show_line, IsOneLine, fed_line}
-use Rattle.tp_show.specs.EndLine.{last_words, end_line}
-use Rattle.tp_show.specs.TraceLine.{opens_with_one, passed_openings, run_end_openings, refusal_openings, ends_trace}
-use Rattle.tp_show.specs.Trace.{GoesOnWith, stop, passed, end}
+use Rattle.tp_show.specs.Texts.{last_words, end_line}
+use Rattle.tp_show.specs.Trace.{opens_with_one, passed_openings, run_end_openings, refusal_openings, ends_trace, GoesOnWith, stop, passed, end}
 use Rattle.tp_show.specs.TraceOfRun.{IsFurtherLine, IsEnding}
 use Rattle.tp_show.proofs.PrintedBytes.{is_plain, ArePlain, plain_append, text_plain}
 

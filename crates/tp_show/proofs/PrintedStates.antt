@@ -24,13 +24,11 @@ use Rattle.tp_decide.specs.Read.{shows_of}
 use Rattle.tp_show.specs.declared.turn.Picture.{Picture}
 use Rattle.tp_show.specs.declared.named_fact.NamedFact.{NamedFact}
 use Rattle.tp_show.specs.Texts.{global_name, index_text, path_text}
-use Rattle.tp_show.specs.Parts.{LinePartTree, valued, measured, shape_part, known_part, line_parts, part_text, spaced_text}
-use Rattle.tp_show.specs.Line.{show_line, picture_lines, pictures_text, fed_line}
+use Rattle.tp_show.specs.Line.{LinePartTree, valued, measured, shape_part, known_part, line_parts, part_text, spaced_text, show_line, picture_lines, fed_line}
+use Rattle.tp_show.specs.FactsOf.{pictures_text}
 use Rattle.tp_show.specs.Told.{IsPartOf}
-use Rattle.tp_show.specs.TraceLine.{IsStateLine, state_opening}
-use Rattle.tp_show.specs.Trace.{GoesOnWith, state, IsTraceText}
+use Rattle.tp_show.specs.Trace.{IsStateLine, state_opening, GoesOnWith, state, IsTraceText, part_facts, parts_facts, named_fact, named_facts}
 use Rattle.tp_show.specs.TraceOfRun.{AreVariableNames, IsPathWithinLimits, IsPartWithinLimits, IsShapeWithinLimits, IsFactWithinLimits, FactsAreWrittenWithinLimits, IsReadable, PrintedState, printed_state_lines, printed_states_text, IsFurtherLine, IsPrinted, CountFrom, IsEnding, PrintedStatesAreTrace, PicturesAreTrace, TracesTellFacts}
-use Rattle.tp_show.specs.TraceFacts.{part_facts, parts_facts, named_fact, named_facts}
 use Rattle.tp_show.specs.TraceArranged.{ArrangedState, IsArranged, arranged_lines, arranged_text, HaveFactsOf}
 use Rattle.tp_show.proofs.Reordered.{IsPermutation-flat_map, clash_reordered}
 use Rattle.tp_show.proofs.PartLemmas.{named}

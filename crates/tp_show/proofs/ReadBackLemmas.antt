@@ -14,9 +14,9 @@ use Rattle.tp_decide.specs.Read.{shows_of}
 use Rattle.tp_show.specs.declared.turn.Picture.{Picture}
 use Rattle.tp_show.specs.declared.turn.Turn.{Turn}
 use Rattle.tp_show.specs.declared.turn.Turn.TheVariants.{Went, Finished, Contradictory, Undetermined, StateLimit, InputMissing, Over}
-use Rattle.tp_show.specs.Parts.{LinePartTree, spaced_text}
-use Rattle.tp_show.specs.Line.{ToldState, shown_value, show_line, told_lines, told_text, told_of, pictures_text, picture_lines}
-use Rattle.tp_show.specs.EndLine.{end_line}
+use Rattle.tp_show.specs.Line.{LinePartTree, spaced_text, ToldState, shown_value, show_line, told_lines, told_text, told_of, picture_lines}
+use Rattle.tp_show.specs.FactsOf.{pictures_text}
+use Rattle.tp_show.specs.Texts.{end_line}
 use Rattle.tp_show.specs.Told.{AreNames, AreShowsInRange, IsToldOf, IsLastTurn, IsEndLine}
 use Rattle.tp_show.proofs.ReadWordLemmas.{word_read, is_low, decimal_is_word, rest_is, decimal_low, low_apart, heads_apart}
 use Rattle.tp_show.specs.ToldLaws.{IsStateOf, Shown, TextShowsStates, TextsAreReadOnce, TextsTell, shown_states}

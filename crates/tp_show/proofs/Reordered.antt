@@ -14,7 +14,7 @@ use Rattle.tp_value.specs.declared.value.Shape.{Shape}
 use Rattle.tp_store.specs.Facts.{same_variable, same_path, same_shape, leaves_out, excludes, clash}
 use Rattle.tp_store.proofs.Paths.{same_shape-decides, clash-sym}
 use Rattle.tp_show.specs.declared.named_fact.NamedFact.{NamedFact}
-use Rattle.tp_show.specs.TraceFacts.{some_variable, fact_in, names_clash, have_clash}
+use Rattle.tp_show.specs.Trace.{some_variable, fact_in, names_clash, have_clash}
 use Rattle.tp_show.proofs.TraceFiled.{ToldIn, all_apart}
 
 module _ {A B : Type 0} (f : A → List B) where

@@ -23,9 +23,9 @@ use Rattle.tp_store.proofs.Members.{In, kept_in, in_kept, agrees_in, agrees_from
 use Rattle.tp_store.proofs.Meaning.{shape_item, item_shape, item_append, full_is_right}
 use Rattle.tp_store.proofs.Chosen.{has_agreeing_state}
 use Rattle.tp_scene.proofs.Globals.{of_variables_in}
-use Rattle.tp_show.specs.Parts.{is_before, AreInOrder, is_deeper, is_inside, is_written, is_value, LinePartTree, valued, measured, shape_part, known_part, parts_by}
+use Rattle.tp_show.specs.Line.{is_before, AreInOrder, is_deeper, is_inside, is_written, is_value, LinePartTree, valued, measured, shape_part, known_part, parts_by}
 use Rattle.tp_show.proofs.FactOrder.{is_before-order}
-use Rattle.tp_show.specs.Line.{AreFactsOf}
+use Rattle.tp_show.specs.FactsOf.{AreFactsOf}
 use Rattle.tp_show.specs.Told.{IsPartOf, HasPart}
 use Rattle.tp_show.specs.ToldLaws.{PartsTellFacts}
 

@@ -9,9 +9,7 @@ use Rattle.tp_value.specs.Spelling.{decimal_value, digits}
 use Rattle.tp_value.proofs.TextSpelled.{text_spelled}
 use Rattle.tp_lex.specs.Spelled.{spelled_word}
 use Rattle.tp_lex.proofs.SpellingLemmas.{no_word}
-use Rattle.tp_show.specs.TraceFacts.{has_value, has_length, parts_facts}
-use Rattle.tp_show.specs.TraceLine.{IsVariableName, none, index, SpellsPath, value, list_length, part, IsStateLine, state_opening}
-use Rattle.tp_show.specs.Trace.{state, passed, stop, end, IsFirstBadLine, not_allowed}
+use Rattle.tp_show.specs.Trace.{has_value, has_length, parts_facts, IsVariableName, none, index, SpellsPath, value, list_length, part, IsStateLine, state_opening, state, passed, stop, end, IsFirstBadLine, not_allowed}
 use Rattle.tp_show.specs.TraceExamples.{counter_at, TraceExamples}
 use Rattle.tp_show.proofs.TraceRuns.{begins_with_nothing, Lines, States, Next, next}
 

@@ -21,7 +21,7 @@ use Rattle.tp_store.proofs.Same.{clash-variable}
 use Rattle.tp_store.proofs.Separate.{value_apart}
 use Rattle.tp_store.proofs.Adding.{AddsAll, adds_all, Refused, refused_by, NoClash-adds, given_in, news_given}
 use Rattle.tp_show.specs.declared.named_fact.NamedFact.{NamedFact}
-use Rattle.tp_show.specs.TraceFacts.{TracePart, has_value, has_length, some_variable, path_in, fact_named, part_facts, fact_in, names_clash, have_clash, parts_facts}
+use Rattle.tp_show.specs.Trace.{TracePart, has_value, has_length, some_variable, path_in, fact_named, part_facts, fact_in, names_clash, have_clash, parts_facts}
 use Rattle.tp_show.specs.declared.trace_part.ReadPart.{ReadPart}
 use Rattle.tp_show.specs.TraceReading.{trace_part_of, trace_parts_of}
 use Rattle.tp_show.specs.TraceFiling.{part_name, variable_facts}

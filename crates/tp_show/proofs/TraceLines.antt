@@ -9,8 +9,7 @@ use Rattle.std.proofs.lemmas.Bool.{or_cases}
 use Rattle.tp_lex.proofs.FeedLemmas.{feed, line_to_feed, line_to_end}
 use Rattle.tp_lex.proofs.Lists.{begins_from}
 use Rattle.tp_show.specs.declared.named_fact.NamedFact.{NamedFact}
-use Rattle.tp_show.specs.TraceFacts.{TracePart, parts_facts, have_clash}
-use Rattle.tp_show.specs.TraceLine.{SpellsParts, IsStateLine, state_opening, is_passed_over, ends_trace}
+use Rattle.tp_show.specs.Trace.{TracePart, parts_facts, have_clash, SpellsParts, IsStateLine, state_opening, is_passed_over, ends_trace}
 use Rattle.tp_show.proofs.TraceSpelled.{parts_unique}
 
 pub some_line : (z : List ℕ) → 0 < length z → (m : List ℕ) × (ms : List (List ℕ)) × (lines z ≡ m ∷ ms)

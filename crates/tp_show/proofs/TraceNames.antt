@@ -9,7 +9,7 @@ use Rattle.tp_lex.specs.Bytes.{is_name_byte, name_limit}
 use Rattle.tp_lex.specs.Spelled.{spelled_word}
 use Rattle.tp_lex.proofs.SpellingLemmas.{word_none, no_word}
 use Rattle.tp_lex.specs.declared.token.Word.{Word}
-use Rattle.tp_show.specs.TraceLine.{AreNameBytes, IsVariableName, SpellsIndices, none, index, SpellsPath}
+use Rattle.tp_show.specs.Trace.{AreNameBytes, IsVariableName, SpellsIndices, none, index, SpellsPath}
 use Rattle.tp_show.specs.TraceReading.{is_variable_name}
 use Rattle.tp_show.proofs.TraceDigits.{AllPass, Stops, front_len, front_passes, pass_another, no_digit}
 use Rattle.tp_show.proofs.TracePaths.{indices_unique}

@@ -10,8 +10,7 @@ use Rattle.tp_value.specs.Spelling.{decimal_value}
 use Rattle.tp_value.specs.Reading.{found, refused, start_state, reading, value_answer}
 use Rattle.tp_value.specs.Answers.{EndsNumber, CannotContinue}
 use Rattle.tp_value.proofs.Completes.{Goes, value_goes}
-use Rattle.tp_show.specs.TraceFacts.{TracePart, has_value, has_length}
-use Rattle.tp_show.specs.TraceLine.{SpellsPath, SpellsPart, value, list_length}
+use Rattle.tp_show.specs.Trace.{TracePart, has_value, has_length, SpellsPath, SpellsPart, value, list_length}
 use Rattle.tp_show.specs.TraceReading.{len_before, digits_within, is_apart, BeginsWithValue, IsValueAt, IsLengthAt, IsAround, BeginsWithPart, IsValuePart, IsLengthPart, IsPartAround}
 use Rattle.tp_show.specs.declared.trace_part.ReadPart.{ReadPart}
 use Rattle.tp_show.proofs.TraceDigits.{AllPass, Stops, front_len, front_stops, no_digit, within_from, within_is, IsWithin}

@@ -5,7 +5,7 @@ use Rattle.std.proofs.lemmas.Option.{same_Some, none-some}
 use Rattle.std.proofs.lemmas.List.{take_at, drop_at, drop_more, take-append-drop}
 use Rattle.tp_value.specs.Limits.{index_limit}
 use Rattle.tp_value.specs.Spelling.{AreDigits, decimal_value}
-use Rattle.tp_show.specs.TraceLine.{SpellsIndices, none, index}
+use Rattle.tp_show.specs.Trace.{SpellsIndices, none, index}
 use Rattle.tp_show.specs.TraceReading.{len_before, digits_within, index_of_len, first_index}
 use Rattle.tp_show.proofs.TraceDigits.{Stops, front_len, front_stops, no_digit, within_from, within_is}
 

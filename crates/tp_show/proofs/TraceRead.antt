@@ -7,9 +7,9 @@ use Rattle.std.proofs.lemmas.List.Sums.{count_by-le-length}
 use Rattle.tp_show.specs.declared.named_fact.NamedFact.{NamedFact}
 use Rattle.tp_show.specs.declared.trace.TraceRefusal.{TraceRefusal}
 use Rattle.tp_show.specs.declared.trace.TraceRefusal.TheVariants.{BadLine, NoMemory}
-use Rattle.tp_show.specs.Trace.{IsTraceText, IsTraceRefusal}
+use Rattle.tp_show.specs.Trace.{IsTraceText, named_facts}
+use Rattle.tp_show.specs.TraceRefused.{IsTraceRefusal}
 use Rattle.tp_show.specs.TraceOfRun.{PrintedState, ReadsPrinted}
-use Rattle.tp_show.specs.TraceFacts.{named_facts}
 use Rattle.tp_show.proofs.TraceOnce.{one_trace, no_bad_trace}
 use Rattle.tp_show.specs.TraceArranged.{ReadsArranged, HaveFactsOf}
 use Rattle.tp_show.proofs.PrintedStates.{traces_tell_facts, arranged_facts, arranged_states, have_facts}

@@ -7,8 +7,7 @@ use Rattle.std.proofs.lemmas.List.{nil_from_length}
 use Rattle.tp_show.specs.declared.named_fact.NamedFact.{NamedFact}
 use Rattle.tp_show.specs.declared.trace_line.LineKind.{LineKind}
 use Rattle.tp_show.specs.TraceReading.{IsKindOf}
-use Rattle.tp_show.specs.TraceLine.{none, IsStateLine, is_passed_over, ends_trace}
-use Rattle.tp_show.specs.Trace.{GoesOnWith, stop, state, passed, end, IsTrace, BeginsTrace, IsFirstBadLine, no_line, not_allowed}
+use Rattle.tp_show.specs.Trace.{none, IsStateLine, is_passed_over, ends_trace, GoesOnWith, stop, state, passed, end, IsTrace, BeginsTrace, IsFirstBadLine, no_line, not_allowed}
 use Rattle.tp_show.proofs.TraceLines.{state_no_other, passed_no_end, state_unique}
 
 abbrev pub Lines : Type 0

@@ -1,7 +1,6 @@
 -- Parts, one after another.
 use Rattle.std.proofs.Common.{◌≡◌, ℕ, ◌+◌, ◌<◌, true, inl, inr, ◌⊎◌, List, [], ◌∷◌, ◌++◌, length, refl, sym, ap, ◌∙◌, subst, arith, append_assoc, append-nil, codes, length-append}
-use Rattle.tp_show.specs.TraceFacts.{TracePart}
-use Rattle.tp_show.specs.TraceLine.{SpellsParts, none, part}
+use Rattle.tp_show.specs.Trace.{TracePart, SpellsParts, none, part}
 use Rattle.tp_show.specs.TraceReading.{is_apart, BeginsWithPart, ComesNext}
 use Rattle.tp_show.proofs.TraceParts.{part_unique}
 

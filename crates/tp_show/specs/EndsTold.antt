@@ -14,9 +14,9 @@ use Rattle.tp_scene.specs.declared.answer.Clash.{Clash}
 use Rattle.tp_scene.specs.declared.answer.Clash.TheVariants.{Facts, Marks, False, NoValue}
 use Rattle.tp_show.specs.declared.turn.Turn.{Turn}
 use Rattle.tp_show.specs.declared.turn.Turn.TheVariants.{Went, Finished, Contradictory, Undetermined, StateLimit, InputMissing, Over}
-use Rattle.tp_show.specs.Parts.{shape_part}
+use Rattle.tp_show.specs.Line.{shape_part}
 use Rattle.tp_show.specs.Told.{IsWord, AreNames, FitsIn64Bits, IsPartInRange}
-use Rattle.tp_show.specs.EndLine.{end_line}
+use Rattle.tp_show.specs.Texts.{end_line}
 
 -- The variables of a store are the globals and then locals, whose names are words; each is static
 -- exactly where its name says so.

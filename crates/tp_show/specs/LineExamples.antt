@@ -12,10 +12,8 @@ use Rattle.tp_kernel.specs.declared.fault.FaultKind.TheVariants.{WrongKind, Zero
 use Rattle.tp_kernel.specs.declared.fault.LimitKind.TheVariants as limit
 use Rattle.tp_scene.specs.declared.answer.Cell.TheVariants.{Part, End}
 use Rattle.tp_scene.specs.declared.answer.Clash.TheVariants.{Facts, Marks, False, NoValue}
-use Rattle.tp_show.specs.Texts.{variable_fact_text, cell_text}
-use Rattle.tp_show.specs.Parts.{line_parts, spaced_text}
-use Rattle.tp_show.specs.Line.{show_line, told_lines}
-use Rattle.tp_show.specs.EndLine.{end_line}
+use Rattle.tp_show.specs.Texts.{variable_fact_text, cell_text, end_line}
+use Rattle.tp_show.specs.Line.{line_parts, spaced_text, show_line, told_lines}
 use Rattle.tp_show.specs.declared.turn.Turn.{Turn}
 use Rattle.tp_show.specs.declared.turn.Turn.TheVariants.{Went, Finished, Contradictory, Undetermined, StateLimit, InputMissing, Over}
 

@@ -1,4 +1,4 @@
--- How paths, facts, cells and clashes are written.
+-- How paths, facts, cells and clashes are written, and the end line of a run.
 use Rattle.std.specs.Prelude.{ℕ, nat_lt, nat_le, int_le, Bool, true, false, List, [], ◌++◌, length, slice_get, unwrap_or, if◌then◌else◌, codes}
 use Rattle.std.specs.List.{flat_map}
 use Rattle.std.specs.Fmt.{decimal, signed_decimal}
@@ -14,6 +14,10 @@ use Rattle.tp_scene.specs.declared.answer.Cell.{Cell}
 use Rattle.tp_scene.specs.declared.answer.Cell.TheVariants.{Part, End}
 use Rattle.tp_scene.specs.declared.answer.Clash.{Clash}
 use Rattle.tp_scene.specs.declared.answer.Clash.TheVariants.{Facts, Marks, False, NoValue}
+use Rattle.tp_kernel.specs.declared.fault.LimitKind.{LimitKind}
+use Rattle.tp_kernel.specs.declared.fault.LimitKind.TheVariants as limit
+use Rattle.tp_show.specs.declared.turn.Turn.{Turn}
+use Rattle.tp_show.specs.declared.turn.Turn.TheVariants.{Went, Finished, Contradictory, Undetermined, StateLimit, InputMissing, Over}
 
 -- the name of the global variable with that number; a number that no variable has is not written
 abbrev pub global_name : List (List ℕ) → ℕ → List ℕ
@@ -35,17 +39,6 @@ abbrev pub shaped_text : List ℕ → Shape → List ℕ
 shaped_text path (Num n) = path ++ codes "=" ++ signed_decimal n
 shaped_text path (Truth b) = path ++ codes "=" ++ truth_text b
 shaped_text path (Items n) = codes "|" ++ path ++ codes "|=" ++ decimal n
-
--- what stands before and behind the path
-abbrev pub opening_text : Shape → List ℕ
-opening_text (Num n) = []
-opening_text (Truth b) = []
-opening_text (Items n) = codes "|"
-
-abbrev pub closing_text : Shape → List ℕ
-closing_text (Num n) = codes "=" ++ signed_decimal n
-closing_text (Truth b) = codes "=" ++ truth_text b
-closing_text (Items n) = codes "|=" ++ decimal n
 
 -- `globals` are the names of the globals, and `known` are the variables of a store, of which the
 -- globals are the first
@@ -105,3 +98,43 @@ clash_text globals known (Facts a b) =
 clash_text globals known (Marks depth) = codes "ends and goes on at depth " ++ decimal depth
 clash_text globals known False = codes "false"
 clash_text globals known (NoValue fault) = codes "no value: " ++ fault_text fault
+
+-- ---- the end line of a run
+
+-- a word for an end, and the state that it speaks of
+abbrev pub state_text : List ℕ → ℕ → List ℕ
+state_text word state = word ++ codes ": state " ++ decimal state
+
+-- a state took so many reductions, and one more applies
+abbrev pub reductions_text : (reductions state : ℕ) → List ℕ
+reductions_text reductions state =
+    state_text (codes "reduction limit") state ++ (codes ": " ++ decimal reductions)
+    ++ codes " reductions"
+
+-- a limit was met in this state
+abbrev pub limit_text : (reductions state : ℕ) → LimitKind → List ℕ
+limit_text reductions state limit.Reductions = reductions_text reductions state
+limit_text reductions state limit.Number = state_text (codes "number limit") state
+limit_text reductions state limit.List = state_text (codes "list limit") state
+limit_text reductions state limit.Calls = state_text (codes "call limit") state
+limit_text reductions state limit.Nest = state_text (codes "nest limit") state
+
+-- What the end line says of a run with these globals, at whose end these variables are known, and
+-- of which a state takes at most so many reductions; a run that goes on has none.
+abbrev pub last_words : (globals : List (List ℕ)) (known : List Variable) (reductions : ℕ) → Turn
+    → List ℕ
+last_words globals known reductions Went = []
+last_words globals known reductions (Finished length) = codes "finished: length " ++ decimal length
+last_words globals known reductions (Contradictory state clash) =
+    state_text (codes "contradictory") state ++ codes ": " ++ clash_text globals known clash
+last_words globals known reductions (Undetermined state cell) =
+    state_text (codes "undetermined") state ++ codes ": " ++ cell_text globals known cell
+last_words globals known reductions (StateLimit states) = codes "state limit: " ++ decimal states
+last_words globals known reductions (InputMissing state port) =
+    state_text (codes "input missing") state ++ codes ": port " ++ port
+last_words globals known reductions (Over state kind) = limit_text reductions state kind
+
+abbrev pub end_line : (globals : List (List ℕ)) (known : List Variable) (reductions : ℕ) → Turn
+    → List ℕ
+end_line globals known reductions Went = []
+end_line globals known reductions turn = last_words globals known reductions turn ++ codes "\n"

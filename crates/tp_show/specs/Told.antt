@@ -9,10 +9,8 @@ use Rattle.tp_store.specs.Known.{Variable, IsVariableOf, global_variable}
 use Rattle.tp_show.specs.declared.turn.Picture.{Picture}
 use Rattle.tp_show.specs.declared.turn.Turn.{Turn}
 use Rattle.tp_show.specs.declared.turn.Turn.TheVariants.{Went, Finished, Contradictory, Undetermined, StateLimit, InputMissing, Over}
-use Rattle.tp_show.specs.Texts.{global_name}
-use Rattle.tp_show.specs.Parts.{LinePartTree, valued, measured}
-use Rattle.tp_show.specs.Line.{ToldState, told_of}
-use Rattle.tp_show.specs.EndLine.{end_line}
+use Rattle.tp_show.specs.Texts.{global_name, end_line}
+use Rattle.tp_show.specs.Line.{LinePartTree, valued, measured, ToldState, told_of}
 
 -- a letter, a digit, `_` or `-`: the bytes of names and of numbers
 abbrev pub is_word_byte : ℕ → Bool

@@ -5,8 +5,8 @@ use Rattle.tp_value.specs.declared.path.Fact.{Fact}
 use Rattle.tp_store.specs.Facts.{AgreesWithAll}
 use Rattle.tp_decide.specs.Read.{shows_of}
 use Rattle.tp_show.specs.declared.turn.Picture.{Picture}
-use Rattle.tp_show.specs.Parts.{line_parts}
-use Rattle.tp_show.specs.Line.{AreFactsOf, ToldState, told_text, pictures_text}
+use Rattle.tp_show.specs.Line.{line_parts, ToldState, told_text}
+use Rattle.tp_show.specs.FactsOf.{AreFactsOf, pictures_text}
 use Rattle.tp_show.specs.Told.{AreNames, IsPictureInRange, IsToldOf, HasPart, IsEndLine}
 
 -- What the lines of states tell before an end line is read back in one way only, and so is the end

@@ -6,10 +6,8 @@ use Rattle.tp_decide.specs.Read.{shows_of}
 use Rattle.tp_show.specs.declared.named_fact.NamedFact.{NamedFact}
 use Rattle.tp_show.specs.declared.trace.TraceRefusal.{TraceRefusal}
 use Rattle.tp_show.specs.declared.trace.TraceRefusal.TheVariants.{NoMemory}
-use Rattle.tp_show.specs.Parts.{LinePartTree, line_parts}
-use Rattle.tp_show.specs.Line.{ToldState, told_lines, fed_line}
-use Rattle.tp_show.specs.TraceFacts.{TracePart, named_facts}
-use Rattle.tp_show.specs.TraceLine.{SpellsPart, state_opening, IsStateLine}
+use Rattle.tp_show.specs.Line.{LinePartTree, line_parts, ToldState, told_lines, fed_line}
+use Rattle.tp_show.specs.Trace.{TracePart, named_facts, SpellsPart, state_opening, IsStateLine}
 use Rattle.tp_show.specs.TraceOfRun.{AreVariableNames, PrintedState, IsPrinted, CountFrom, IsEnding}
 
 -- a part, with a text that spells it

@@ -4,7 +4,8 @@ use Rattle.tp_value.specs.declared.value.Shape.{Shape}
 use Rattle.tp_value.specs.declared.value.Shape.TheVariants.{Num, Truth, Items}
 use Rattle.tp_show.specs.declared.named_fact.NamedFact.{NamedFact}
 use Rattle.tp_show.specs.declared.trace.TraceRefusal.TheVariants.{BadLine}
-use Rattle.tp_show.specs.Trace.{IsTraceText, IsTraceRefusal}
+use Rattle.tp_show.specs.Trace.{IsTraceText}
+use Rattle.tp_show.specs.TraceRefused.{IsTraceRefusal}
 
 -- a fact of this variable, or of what stands at indices in it
 abbrev pub told_at : (name at : List ℕ) → Shape → NamedFact

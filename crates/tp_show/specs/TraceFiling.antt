@@ -4,7 +4,7 @@ use Rattle.tp_value.specs.declared.path.VarId.{VarId}
 use Rattle.tp_value.specs.declared.path.Fact.{Fact}
 use Rattle.tp_value.specs.declared.value.Shape.TheVariants.{Items}
 use Rattle.tp_store.specs.Facts.{fact, facts_at}
-use Rattle.tp_show.specs.TraceFacts.{TracePart, has_value, has_length, path_in}
+use Rattle.tp_show.specs.Trace.{TracePart, has_value, has_length, path_in}
 
 abbrev pub part_name : TracePart → List ℕ
 part_name (has_value name at t) = name

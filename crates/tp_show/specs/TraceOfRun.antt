@@ -14,13 +14,10 @@ use Rattle.tp_show.specs.declared.turn.Turn.TheVariants.{Went, Finished, Contrad
 use Rattle.tp_show.specs.declared.named_fact.NamedFact.{NamedFact}
 use Rattle.tp_show.specs.declared.trace.TraceRefusal.{TraceRefusal}
 use Rattle.tp_show.specs.declared.trace.TraceRefusal.TheVariants.{NoMemory}
-use Rattle.tp_show.specs.Texts.{global_name}
-use Rattle.tp_show.specs.Parts.{LinePartTree, valued, measured, line_parts}
-use Rattle.tp_show.specs.Line.{AreFactsOf, picture_lines, pictures_text, IsOneLine, fed_line}
-use Rattle.tp_show.specs.EndLine.{last_words, end_line}
-use Rattle.tp_show.specs.TraceFacts.{named_facts}
-use Rattle.tp_show.specs.TraceLine.{IsVariableName, is_passed_over}
-use Rattle.tp_show.specs.Trace.{IsTraceText}
+use Rattle.tp_show.specs.Texts.{global_name, last_words, end_line}
+use Rattle.tp_show.specs.Line.{LinePartTree, valued, measured, line_parts, picture_lines, IsOneLine, fed_line}
+use Rattle.tp_show.specs.FactsOf.{AreFactsOf, pictures_text}
+use Rattle.tp_show.specs.Trace.{named_facts, IsVariableName, is_passed_over, IsTraceText}
 
 -- names of variables, of which none stands twice
 pub record AreVariableNames (names : List (List ℕ)) : Type 0 where

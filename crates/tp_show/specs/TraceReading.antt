@@ -14,11 +14,10 @@ use Rattle.tp_lex.specs.Spelled.{spelled_word}
 use Rattle.tp_show.specs.declared.trace_part.NamedPath.{NamedPath}
 use Rattle.tp_show.specs.declared.trace_part.ReadPart.{ReadPart}
 use Rattle.tp_show.specs.declared.trace_part.ReadPart.TheVariants.{Given, Measured}
-use Rattle.tp_show.specs.TraceFacts.{TracePart, has_value, has_length}
+use Rattle.tp_show.specs.Trace.{TracePart, has_value, has_length, SpellsIndices, SpellsPath, SpellsPart, SpellsParts, IsStateLine, is_passed_over, ends_trace}
 use Rattle.tp_show.specs.declared.named_fact.NamedFact.{NamedFact}
 use Rattle.tp_show.specs.declared.trace_line.LineKind.{LineKind}
 use Rattle.tp_show.specs.declared.trace_line.LineKind.TheVariants.{State, PassedOver, End, Bad}
-use Rattle.tp_show.specs.TraceLine.{SpellsIndices, SpellsPath, SpellsPart, SpellsParts, IsStateLine, is_passed_over, ends_trace}
 
 -- how many bytes stand before the first one that is this
 abbrev pub len_before : ℕ → List ℕ → ℕ

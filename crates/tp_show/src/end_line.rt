@@ -1,6 +1,6 @@
 // The end line of a run.
 ghost use Rattle.std.specs.Prelude.{◌≡◌, ◌++◌, OnOk, OnErr};
-ghost use Rattle.tp_show.specs.EndLine.{end_line, last_words, limit_text, reductions_text, state_text};
+ghost use Rattle.tp_show.specs.Texts.{end_line, last_words, limit_text, reductions_text, state_text};
 
 use crate::clash::{Naming, append_cell, append_clash};
 use crate::text::{append_counted, piece_for};

@@ -4,9 +4,7 @@ ghost use Rattle.std.specs.List.{flat_map};
 ghost use Rattle.tp_value.specs.Range.{HasMachineNumbers};
 ghost use Rattle.tp_value.specs.Read.{tree};
 ghost use Rattle.tp_decide.specs.Read.{values_of, shows_of};
-ghost use Rattle.tp_show.specs.Read.{plain_part, plain_parts};
-ghost use Rattle.tp_show.specs.Parts.{line_parts, spaced_text};
-ghost use Rattle.tp_show.specs.Line.{picture_lines, show_line, shown_value, state_line};
+ghost use Rattle.tp_show.specs.Line.{plain_part, plain_parts, line_parts, spaced_text, picture_lines, show_line, shown_value, state_line};
 ghost use Rattle.tp_show.specs.Told.{ArePartsInRange, AreShowsInRange, IsPartInRange, IsPictureInRange};
 
 use crate::line_part::{LinePart, LineParts};

@@ -4,8 +4,7 @@ ghost use Rattle.std.specs.Option.{option_copied};
 ghost use Rattle.tp_store.specs.Answers.{full_of};
 ghost use Rattle.tp_store.specs.Facts.{same_variable};
 ghost use Rattle.tp_store.specs.Known.{full};
-ghost use Rattle.tp_show.specs.Read.{plain_part, plain_parts};
-ghost use Rattle.tp_show.specs.Parts.{is_deeper, is_inside, is_value, is_written, known_part, parts_by, shape_part};
+ghost use Rattle.tp_show.specs.Line.{plain_part, plain_parts, is_deeper, is_inside, is_value, is_written, known_part, parts_by, shape_part};
 
 use crate::line_part::{LinePart, LineParts};
 use std::alloc::Global;

@@ -3,7 +3,8 @@ ghost use Rattle.std.specs.Prelude.{◌≡◌, ◌++◌, [], All, OnOk};
 ghost use Rattle.std.specs.Fmt.{decimal, signed_decimal};
 ghost use Rattle.std.specs.List.{flat_map};
 ghost use Rattle.tp_show.specs.Told.{FitsIn64Bits};
-ghost use Rattle.tp_show.specs.Texts.{global_name, index_text, path_text, opening_text, closing_text};
+ghost use Rattle.tp_show.specs.Texts.{global_name, index_text, path_text};
+ghost use Rattle.tp_show.specs.PathText.{opening_text, closing_text};
 
 use itoa::Buffer;
 use tp_value::{Globals, Indices, NoMemory, Number, Path, Shape, Text};

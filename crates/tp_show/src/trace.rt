@@ -3,7 +3,8 @@ ghost use Rattle.std.specs.Prelude.{◌≡◌, IfOk, IfErr};
 ghost use Rattle.tp_show.specs.declared.trace.TraceRefusal.TheVariants.{NoMemory as refused_memory};
 ghost use Rattle.tp_show.specs.TraceArranged.{ReadsArranged};
 ghost use Rattle.tp_show.specs.TraceOfRun.{ReadsPrinted};
-ghost use Rattle.tp_show.specs.Trace.{IsTraceText, IsTraceRefusal};
+ghost use Rattle.tp_show.specs.Trace.{IsTraceText};
+ghost use Rattle.tp_show.specs.TraceRefused.{IsTraceRefusal};
 
 use crate::named_fact::NamedFact;
 use crate::trace_line::{LineKind, line_kind};

@@ -5,7 +5,7 @@ ghost use Rattle.tp_store.specs.Known.{addition, adds, global_variable, IsVariab
 ghost use Rattle.tp_store.specs.Stock.{contents_in};
 ghost use Rattle.tp_store.specs.Answers.{IsRefusal};
 ghost use Rattle.tp_store.specs.Changes.{IsSoundStore, AddsFacts, HaveSameShapes};
-ghost use Rattle.tp_show.specs.TraceFacts.{fact_named, part_facts, parts_facts, have_clash};
+ghost use Rattle.tp_show.specs.Trace.{fact_named, part_facts, parts_facts, have_clash};
 ghost use Rattle.tp_show.specs.TraceReading.{trace_part_of, trace_parts_of};
 ghost use Rattle.tp_show.specs.TraceFiling.{part_name, variable_facts};
 

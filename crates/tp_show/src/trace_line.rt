@@ -1,7 +1,7 @@
 // The lines of a trace.
 ghost use Rattle.std.specs.Prelude.{◌≡◌, ◌≢◌, ◌++◌, ℕ, List, codes, IfOk, MatchOption};
-ghost use Rattle.tp_show.specs.TraceLine.{state_opening};
-ghost use Rattle.tp_show.specs.TraceLine as spec;
+ghost use Rattle.tp_show.specs.Trace.{state_opening};
+ghost use Rattle.tp_show.specs.Trace as spec;
 ghost use Rattle.tp_show.specs.TraceReading.{IsStateFound, found_facts, IsKindOf};
 
 use crate::named_fact::NamedFact;

@@ -1,7 +1,6 @@
 // What a run answers for a state.
 ghost use Rattle.std.specs.Prelude.{◌≡◌};
-ghost use Rattle.tp_show.specs.Parts.{line_parts};
-ghost use Rattle.tp_show.specs.Read.{plain_parts};
+ghost use Rattle.tp_show.specs.Line.{line_parts, plain_parts};
 
 use crate::line_part::LineParts;
 use std::alloc::Global;

@@ -25,16 +25,6 @@ ClosureEnds w left m (Over k) =
     Meets w m (passes k)
     ⊎ ((k ≡ Reductions) × (left ≡ 0) × ((r : Reduction) × Meets w m (reduces r)))
 
--- and with this item
-abbrev pub EndsWithItem : Setting → (left : ℕ) → Moment → (item : ℕ) → Ending → Type 0
-EndsWithItem w k m t Rest = ⊥
-EndsWithItem w k m t (Clash clash) = outcome_of w m.store m.scene t ≡ clashes clash
-EndsWithItem w k m t (Missing port) = outcome_of w m.store m.scene t ≡ misses port
-EndsWithItem w k m t (Over kind) =
-    (outcome_of w m.store m.scene t ≡ passes kind)
-    ⊎ ((kind ≡ Reductions) × (k ≡ 0)
-    × ((r : Reduction) × (outcome_of w m.store m.scene t ≡ reduces r)))
-
 -- Picks lead from one moment to another; they were appended to those before, and each took one of
 -- the reductions that were left.
 pub record Made (w : Setting) (m next : Moment) (left left' : ℕ)

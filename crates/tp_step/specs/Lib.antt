@@ -3,6 +3,7 @@ pub mod Successors
 pub mod Answers
 pub mod Chosen
 pub mod Closes
+pub mod EndsWith
 pub mod EveryRest
 pub mod Meaning
 pub mod OfVariables

@@ -96,25 +96,3 @@ pub struct Course {
     pub order: Order,
     pub room: u64,
 }
-
-/// An item that waits, with its cells.
-#[derive(Drop)]
-pub struct Wait {
-    pub item: u64,
-    pub first: Cell,
-    pub other: Option<Cell>,
-}
-
-/// Waits, in order.
-#[derive(Drop)]
-pub struct Waits {
-    pub items: Vec<Wait>,
-}
-
-/// What a closure has done: the items that it reduced, those that it found waiting, and those that it found at rest.
-#[derive(Drop)]
-pub struct Tally {
-    pub picks: ItemIds,
-    pub waits: Waits,
-    pub rests: ItemIds,
-}

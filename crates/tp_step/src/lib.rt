@@ -14,8 +14,9 @@ mod own;
 mod seed;
 mod step;
 mod steps;
+mod tally;
 
-pub use answer::{Course, ItemIds, NewIds, News, Settled, Tally, Tried, Wait, Waits};
+pub use answer::{Course, ItemIds, NewIds, News, Settled, Tried};
 pub use ending::Ending;
 pub use first::start;
 pub use laws::first_waiting_is_named;
@@ -26,6 +27,7 @@ pub use own::own_items;
 pub use seed::choose_place;
 pub use step::try_item;
 pub use steps::Steps;
+pub use tally::{Tally, Wait, Waits};
 pub use tp_decide::{Phrase, Setting, Shows, Values};
 pub use tp_scene::{Cell, Clash};
 pub use tp_slots::{Mark, Scene, has_item, mark, shown};

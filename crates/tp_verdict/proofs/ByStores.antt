@@ -12,8 +12,7 @@ use Rattle.tp_store.proofs.Paths.{same_path-decides, same_path-sym}
 use Rattle.tp_eval.specs.Outcome.{outcome}
 use Rattle.tp_verdict.specs.Wide.{WideTree}
 use Rattle.tp_verdict.specs.Verdict.{no}
-use Rattle.tp_verdict.specs.Table.{verdict}
-use Rattle.tp_verdict.specs.Trace.{FactsOfStates, given_of, known_with, each_path_once, known_in, known_outcome, is_torn, whole_verdict}
+use Rattle.tp_verdict.specs.Trace.{verdict, FactsOfStates, given_of, known_with, each_path_once, known_in, known_outcome, is_torn, whole_verdict}
 use Rattle.tp_verdict.specs.Found.{facts_of_state, found_in}
 use Rattle.tp_verdict.proofs.Right.{known_apart}
 use Rattle.tp_verdict.proofs.SameOutcomes.{outcomes_by_shapes}

@@ -9,7 +9,7 @@ use Rattle.tp_eval.specs.Outcome as found
 use Rattle.tp_eval.specs.Outcome.{Outcome}
 use Rattle.tp_verdict.specs.Wide.{WideTree, Somehow, WideHolds}
 use Rattle.tp_verdict.specs.Verdict.{Verdict, yes, no, undecided}
-use Rattle.tp_verdict.specs.Table.{verdict}
+use Rattle.tp_verdict.specs.Trace.{verdict}
 use Rattle.tp_verdict.specs.VerdictLaws.{StaysOpen}
 use Rattle.tp_verdict.specs.Logic.{WideFormulasAreDecided}
 use Rattle.tp_verdict.proofs.Judged.{Judged, OutcomeSays}

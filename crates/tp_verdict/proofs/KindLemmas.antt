@@ -5,7 +5,7 @@ use Rattle.tp_meaning.specs.Syntax.{ExprTree}
 use Rattle.tp_eval.specs.Outcome.{Outcome}
 use Rattle.tp_verdict.specs.Wide.{WideTree, empty, more, next, if_more, if_empty, negation}
 use Rattle.tp_verdict.specs.Verdict.{Verdict, yes, no, undecided, of_truth, both_of, one_of, opposite_of, all_from, some_from}
-use Rattle.tp_verdict.specs.Table.{verdict}
+use Rattle.tp_verdict.specs.Trace.{verdict}
 use Rattle.tp_verdict.specs.Stored.{stored, HaveVerdicts}
 use Rattle.tp_verdict.specs.declared.verdict_row.VerdictRow.{VerdictRow}
 

@@ -10,7 +10,7 @@ use Rattle.tp_eval.specs.declared.outcome.Outcome.{Outcome}
 use Rattle.tp_verdict.specs.Wide.{test, equation, next_equation, len, assign, branch, while, WideTree}
 use Rattle.tp_verdict.specs.Verdict as told
 use Rattle.tp_verdict.specs.Verdict.{no, both_of, one_of, value_verdict, equality_verdict}
-use Rattle.tp_verdict.specs.Table.{verdict, looped}
+use Rattle.tp_verdict.specs.Trace.{verdict, looped}
 use Rattle.tp_verdict.specs.Code.{verdict_of}
 use Rattle.tp_verdict.specs.Stored.{or_no, stored, verdict_listed, HaveVerdicts}
 use Rattle.tp_verdict.specs.Ruled.{length_verdict, paired}

@@ -9,9 +9,7 @@ use Rattle.tp_store.specs.Known.{NoClash}
 use Rattle.tp_eval.specs.Outcome.{Outcome, value, wait, fault, over, outcome}
 use Rattle.tp_eval.proofs.OutcomesAre.{waits_are_undecided}
 use Rattle.tp_verdict.specs.Verdict.{Verdict, undecided, no}
-use Rattle.tp_verdict.specs.Table.{verdict}
-use Rattle.tp_verdict.specs.Trace.{is_torn, known_in, known_outcome}
-use Rattle.tp_verdict.specs.Sound.{AreAllKnown}
+use Rattle.tp_verdict.specs.Trace.{verdict, is_torn, known_in, known_outcome, AreAllKnown}
 use Rattle.tp_verdict.specs.VerdictLaws.{StaysOpen, UndecidedByLimits}
 use Rattle.tp_verdict.proofs.Right.{known_apart, undecided_where_open}
 use Rattle.tp_verdict.proofs.WholeKnown.{full_there}

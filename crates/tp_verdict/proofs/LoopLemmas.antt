@@ -3,7 +3,7 @@ use Rattle.std.proofs.Common.{◌≡◌, ℕ, zero, suc, ◌-◌, ◌<◌, ◌�
 use Rattle.std.specs.Prelude.{slice_set}
 use Rattle.std.proofs.lemmas.Bool.{cases_eq, cases_lt, ne_eqb}
 use Rattle.tp_verdict.specs.Verdict.{Verdict, no, both_of, one_of, some_from}
-use Rattle.tp_verdict.specs.Table.{Table, looped}
+use Rattle.tp_verdict.specs.Trace.{Table, looped}
 use Rattle.tp_verdict.specs.Stored.{verdict_at, stored, OfEachRow, HaveVerdicts, joined_from}
 use Rattle.tp_verdict.specs.declared.verdict_row.VerdictRow.{VerdictRow}
 use Rattle.tp_verdict.proofs.TableLemmas.{one_of-no, both_of-no, of_set, row_there, stored_in, stored_past, have_verdicts, some_same, some_none, some_until}

@@ -21,9 +21,7 @@ use Rattle.tp_eval.specs.Right.{values_at, OutcomesAreRight}
 use Rattle.tp_eval.proofs.OutcomesAre.{outcomes_mean}
 use Rattle.tp_verdict.specs.Wide.{WideTree, Somehow, WideHolds, IsExprOf}
 use Rattle.tp_verdict.specs.Verdict.{no, undecided}
-use Rattle.tp_verdict.specs.Table.{verdict}
-use Rattle.tp_verdict.specs.Trace.{FactsOfStates, given_of, known_with, each_path_once, known_in, known_outcome, clash_somewhere, is_torn, IsTold}
-use Rattle.tp_verdict.specs.Sound.{WideFits}
+use Rattle.tp_verdict.specs.Trace.{verdict, FactsOfStates, given_of, known_with, each_path_once, known_in, known_outcome, clash_somewhere, is_torn, IsTold, WideFits}
 use Rattle.tp_verdict.specs.VerdictLaws.{AreOfKinds, StatesAreOfKinds, VerdictsAreRight, StaysOpen, UndecidedWhereOpen}
 use Rattle.tp_verdict.proofs.Widened.{no_calls}
 use Rattle.tp_verdict.proofs.Judged.{Judged, as_no, OutcomeSays}

@@ -6,7 +6,7 @@ use Rattle.tp_meaning.specs.Syntax.{ExprTree}
 use Rattle.tp_eval.specs.Outcome.{Outcome}
 use Rattle.tp_verdict.specs.Wide.{WideTree, WideTrees, trivial, test, equation, next_equation, empty, more, next, if_more, if_empty, always, conjunction, branch, len, assign, chop, while, disjunction, negation, sometimes, no_formula, formula_then}
 use Rattle.tp_verdict.specs.Verdict.{Verdict, yes, no, both_of, one_of, opposite_of, all_from, some_from, value_verdict, equality_verdict}
-use Rattle.tp_verdict.specs.Table.{looped, has_in, verdict, all_verdicts}
+use Rattle.tp_verdict.specs.Trace.{looped, has_in, verdict, all_verdicts}
 
 all_alike : (u v : ℕ → Verdict) (m k : ℕ) → ((i : ℕ) → k ≤ i → i < m + k → u i ≡ v i) → all_from m k u ≡ all_from m k v
 all_alike u v zero k h = refl

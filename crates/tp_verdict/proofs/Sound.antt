@@ -9,7 +9,7 @@ use Rattle.tp_meaning.proofs.Shows.{total-of-blank}
 use Rattle.tp_eval.specs.Outcome.{Outcome}
 use Rattle.tp_verdict.specs.Wide.{IsExprOf, IsExprOfSome, WideTree, WideTrees, HasValue, Somehow, WideHolds, AllHoldWidely, trivial, test, equation, next_equation, empty, more, next, if_more, if_empty, always, conjunction, branch, len, assign, chop, while, disjunction, negation, sometimes, no_formula, formula_then}
 use Rattle.tp_verdict.specs.Verdict.{Verdict, no, yes, both_of, equality_verdict}
-use Rattle.tp_verdict.specs.Table.{looped, has_in, verdict, all_verdicts}
+use Rattle.tp_verdict.specs.Trace.{looped, has_in, verdict, all_verdicts}
 use Rattle.tp_verdict.proofs.Judged.{Judged, as_yes, as_no, judged_as, both_judged, one_judged, opposite_judged, truth_judged, if_judged, all_judged, some_judged, OutcomeSays, value_judged, HaveOneValue, equality_judged}
 
 -- the numbers of pieces that don't use them

@@ -4,7 +4,7 @@ use Rattle.tp_meaning.specs.Syntax.{ExprTree}
 use Rattle.tp_eval.specs.Outcome.{Outcome}
 use Rattle.tp_verdict.specs.Wide.{trivial, wide_formulas_of}
 use Rattle.tp_verdict.specs.Verdict.{Verdict, yes, no, undecided, both_of}
-use Rattle.tp_verdict.specs.Table.{verdict, all_verdicts}
+use Rattle.tp_verdict.specs.Trace.{verdict, all_verdicts}
 use Rattle.tp_verdict.specs.Stored.{HaveVerdicts}
 use Rattle.tp_verdict.specs.Read.{wide_tree, wide_trees}
 use Rattle.tp_verdict.specs.declared.verdict_row.VerdictRow.{VerdictRow}

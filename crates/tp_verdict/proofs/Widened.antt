@@ -8,7 +8,8 @@ use Rattle.tp_meaning.specs.Inputs.{InputTable}
 use Rattle.tp_meaning.specs.Holds.{Context, CallMeanings, Joined, Chopped, OnEachSuffix, Pieces, HoldsBy, AllHoldBy, CallHolds}
 use Rattle.tp_verdict.specs.Wide as wide
 use Rattle.tp_verdict.specs.Wide.{WideTree, WideTrees, HasValue, WideHolds, AllHoldWidely}
-use Rattle.tp_verdict.specs.Widened.{widened, all_widened, WideHoldsAsHolds}
+use Rattle.tp_verdict.specs.Widened.{widened, all_widened}
+use Rattle.tp_verdict.specs.WidenedLaws.{WideHoldsAsHolds}
 
 -- with no definitions no call has a value, at any depth
 pub no_calls : (d : ℕ) → calls_at [] d ≡ calls_at [] 0

@@ -1,10 +1,9 @@
 pub mod Wide
 pub mod Widened
+pub mod WidenedLaws
 pub mod Logic
 pub mod Verdict
-pub mod Table
 pub mod Trace
-pub mod Sound
 pub mod Examples
 pub mod Rows
 pub mod Code

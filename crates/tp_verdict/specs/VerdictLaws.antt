@@ -10,8 +10,7 @@ use Rattle.tp_verdict.specs.Wide.{WideTree, WideHolds, IsExprOf}
 use Rattle.tp_store.specs.Known.{lasting_facts}
 use Rattle.tp_eval.specs.Outcome.{Outcome, value, wait, fault, over}
 use Rattle.tp_verdict.specs.Verdict.{yes, no, undecided}
-use Rattle.tp_verdict.specs.Trace.{FactsOfStates, IsTold, known_in, known_outcome, clash_somewhere, is_torn, whole_verdict}
-use Rattle.tp_verdict.specs.Sound.{AreAllKnown, WideFits}
+use Rattle.tp_verdict.specs.Trace.{FactsOfStates, IsTold, known_in, known_outcome, clash_somewhere, is_torn, whole_verdict, AreAllKnown, WideFits}
 
 -- each fact is of one of these variables
 abbrev pub AreOfKinds : List Bool → List Fact → Type 0

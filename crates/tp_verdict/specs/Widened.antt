@@ -1,12 +1,9 @@
 -- The formulas that can be run among the wider ones.
-use Rattle.std.specs.Prelude.{◌≡◌, ◌↔◌, ℕ, [], Option, Some, None}
+use Rattle.std.specs.Prelude.{Option, Some, None}
 use Rattle.tp_meaning.specs.Syntax.{FormulaTree, FormulaTrees, trivial, test, equation, next_equation, empty, more, next, weak_next, if_more, if_empty, always, conjunction, branch, len, assign, chop, while, for_from, forall_from, project, exists, call, input, display, no_formula, formula_then}
-use Rattle.tp_meaning.specs.Course.{Course, Shows}
 use Rattle.tp_meaning.specs.Value.{◌>>=◌}
-use Rattle.tp_meaning.specs.Inputs.{InputTable}
-use Rattle.tp_meaning.specs.Holds.{Holds}
 use Rattle.tp_verdict.specs.Wide as wide
-use Rattle.tp_verdict.specs.Wide.{WideTree, WideTrees, WideHolds}
+use Rattle.tp_verdict.specs.Wide.{WideTree, WideTrees}
 
 abbrev mutual
   -- the same formula as a wider one, where all of its kinds are there
@@ -48,11 +45,3 @@ abbrev mutual
     w ← widened f
     ws ← all_widened fs
     Some (wide.formula_then w ws)
-
--- Where a formula is one of the wider ones, it holds as such exactly where it holds, and shows the
--- same: in a program without definitions, with any inputs, at any depth.
-abbrev pub WideHoldsAsHolds : Type 0
-WideHoldsAsHolds =
-    (f : FormulaTree) (w : WideTree) → widened f ≡ Some w
-    → (inputs : InputTable) (d : ℕ) (s : Course) (a b : ℕ) (S : Shows) →
-    Holds (record { defs = []; inputs = inputs }) d f [] s a b S ↔ WideHolds w s a b S

@@ -2,7 +2,7 @@
 ghost use Rattle.std.specs.Prelude.{◌≡◌, IfOk, length};
 ghost use Rattle.tp_kernel.specs.Read.{expr_tree};
 ghost use Rattle.tp_verdict.specs.Wide.{WideTree, branch, while};
-ghost use Rattle.tp_verdict.specs.Table.{verdict};
+ghost use Rattle.tp_verdict.specs.Trace.{verdict};
 ghost use Rattle.tp_verdict.specs.Stored.{HaveVerdicts};
 ghost use Rattle.tp_verdict.specs.Found.{found_in};
 

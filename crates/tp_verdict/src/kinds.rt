@@ -9,7 +9,7 @@ ghost use Rattle.tp_eval.specs.Answers.{outcome_tree};
 ghost use Rattle.tp_verdict.specs.Wide.{WideTree, trivial, empty, more, next, if_more, if_empty, always, disjunction, negation};
 ghost use Rattle.tp_verdict.specs.Verdict.{value_verdict, both_of};
 ghost use Rattle.tp_verdict.specs.Verdict as told;
-ghost use Rattle.tp_verdict.specs.Table.{verdict};
+ghost use Rattle.tp_verdict.specs.Trace.{verdict};
 ghost use Rattle.tp_verdict.specs.Code.{verdict_of};
 ghost use Rattle.tp_verdict.specs.Stored.{HaveVerdicts};
 

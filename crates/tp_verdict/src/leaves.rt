@@ -5,7 +5,7 @@ ghost use Rattle.tp_kernel.specs.Read.{expr_tree};
 ghost use Rattle.tp_eval.specs.Answers.{outcome_tree};
 ghost use Rattle.tp_verdict.specs.Wide.{test, equation, next_equation, len, assign};
 ghost use Rattle.tp_verdict.specs.Verdict.{value_verdict};
-ghost use Rattle.tp_verdict.specs.Table.{verdict};
+ghost use Rattle.tp_verdict.specs.Trace.{verdict};
 ghost use Rattle.tp_verdict.specs.Code.{verdict_of};
 ghost use Rattle.tp_verdict.specs.Stored.{verdict_listed, HaveVerdicts};
 ghost use Rattle.tp_verdict.specs.Ruled.{paired};

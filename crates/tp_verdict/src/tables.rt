@@ -2,7 +2,7 @@
 ghost use Rattle.std.specs.Prelude.{◌≡◌, ◌≤◌, ◌<◌, ◌-◌, ℕ, suc, IfOk, length};
 ghost use Rattle.tp_verdict.specs.Verdict as told;
 ghost use Rattle.tp_verdict.specs.Verdict.{no, both_of, one_of, some_from};
-ghost use Rattle.tp_verdict.specs.Table.{looped};
+ghost use Rattle.tp_verdict.specs.Trace.{looped};
 ghost use Rattle.tp_verdict.specs.Code.{verdict_of};
 ghost use Rattle.tp_verdict.specs.Stored.{verdict_at, width_of, words_for, stored, verdict_listed, HaveWidth, HaveVerdicts, joined_from};
 ghost use Rattle.tp_verdict.specs.Ruled.{ruled, RuleFits};

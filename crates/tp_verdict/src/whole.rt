@@ -1,6 +1,6 @@
 // The table of a wider formula over states.
 ghost use Rattle.std.specs.Prelude.{◌≡◌, ◌<◌, ◌-◌, IfOk, length};
-ghost use Rattle.tp_verdict.specs.Table.{verdict, all_verdicts};
+ghost use Rattle.tp_verdict.specs.Trace.{verdict, all_verdicts};
 ghost use Rattle.tp_verdict.specs.Code.{verdict_of};
 ghost use Rattle.tp_verdict.specs.Stored.{HaveVerdicts};
 ghost use Rattle.tp_verdict.specs.Found.{found_in};

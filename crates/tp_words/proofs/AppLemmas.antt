@@ -6,7 +6,7 @@ use Rattle.clap.specs.declared.error.Error.{Error}
 use Rattle.clap.specs.declared.error.kind.ErrorKind.{ErrorKind}
 use Rattle.clap.specs.declared.error.kind.ErrorKind.TheVariants.{OutOfMemory}
 use Rattle.clap.proofs.OnLiterals.{clap_on_literals}
-use Rattle.tp_words.specs.App.{the_app}
+use Rattle.tp_words.specs.Options.{the_app}
 use Rattle.tp_words.specs.Words.{wanted_in, wanted_without, wanted_of_texts}
 
 pub the_app_is_simple : is_simple the_app ≡ true

@@ -10,12 +10,10 @@ use Rattle.clap.specs.Simple.{Shape, built, entered}
 use Rattle.clap.specs.Kinds.{or_else}
 use Rattle.clap.specs.Walk.{Held, Walk, Step, idle, value, word_met, walked, after_step, to_positional, arg_by_index, walk_from, nothing_held, settled, finished}
 use Rattle.clap.specs.Faults.{word_fault, turn_fault, step_fault, settle_fault, defaults_fault, check_fault, entered_fault}
-use Rattle.tp_words.specs.App.{the_app}
+use Rattle.tp_words.specs.Options.{the_app, mode_text, needs_other, has_other, size_spelled}
 use Rattle.tp_words.specs.declared.mode.Mode.{Mode}
 use Rattle.tp_words.specs.declared.mode.Mode.TheVariants.{Run, Print, Convert, Check, Drill}
-use Rattle.tp_words.specs.Mode.{mode_text, needs_other, has_other}
 use Rattle.tp_words.specs.Subject.{IsSubjectOf}
-use Rattle.tp_words.specs.Size.{size_spelled}
 use Rattle.tp_words.specs.Words.{Wanted, wanted_without, wanted_in, wanted_of_texts, wanted_of}
 use Rattle.tp_words.specs.Usual.{usual_wanted}
 

@@ -9,8 +9,7 @@ use Rattle.std.specs.Str.Parse.{AllDigits, IsNumeral, digits_value, without_lead
 use Rattle.std.proofs.lemmas.Bool.{and_parts}
 use Rattle.std.proofs.lemmas.Str.Parse.{without_leading_plus_none}
 use Rattle.std.proofs.lemmas.Bool.Decides.{nat_tests}
-use Rattle.tp_words.specs.Numeral.{is_numeral, numeral_value, numeral_within, from_one_to}
-use Rattle.tp_words.specs.Limit.{limit_set, greatest_limit, limit_digits}
+use Rattle.tp_words.specs.Options.{is_numeral, numeral_value, numeral_within, from_one_to, limit_set, greatest_limit, limit_digits}
 
 digit_below : (c : ℕ) → is_ascii_digit c ≡ true → digit_value c < 10
 digit_below c h = grind arith

@@ -5,9 +5,8 @@ use Rattle.std.specs.Int.{IsInRange}
 use Rattle.std.specs.Str.{bytes_eq}
 use Rattle.tp_words.specs.declared.mode.Mode.{Mode}
 use Rattle.tp_words.specs.declared.mode.Mode.TheVariants.{Run, Print, Convert, Check, Drill}
-use Rattle.tp_words.specs.Mode.{mode_text, mode_named}
+use Rattle.tp_words.specs.Options.{mode_text, mode_named, size_spelled, greatest_size}
 use Rattle.tp_words.specs.Subject.{HasSize}
-use Rattle.tp_words.specs.Size.{size_spelled, greatest_size}
 use Rattle.tp_words.proofs.NumeralLemmas.{numeral_range}
 
 has_no_size : (mode : Mode) → ((size : ℕ) → mode ≡ Drill size → ⊥) → HasSize mode

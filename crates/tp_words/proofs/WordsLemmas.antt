@@ -5,11 +5,8 @@ use Rattle.std.specs.Str.{IsUtf8, is_utf8}
 use Rattle.std.proofs.lemmas.Option.{option_and_then_some}
 use Rattle.std.proofs.lemmas.Str.{IsUtf8-from_is_utf8}
 use Rattle.clap.specs.Words.{Row, Kinds, first_of, fault_of, matches_of}
-use Rattle.tp_words.specs.App.{the_app}
-use Rattle.tp_words.specs.Limit.{limit_set, greatest_limit, usual_states, usual_reductions}
-use Rattle.tp_words.specs.Mode.{mode_named, has_other}
+use Rattle.tp_words.specs.Options.{the_app, limit_set, greatest_limit, usual_states, usual_reductions, mode_named, has_other, order_set}
 use Rattle.tp_words.specs.Subject.{HasSize}
-use Rattle.tp_words.specs.Order.{order_set}
 use Rattle.tp_words.specs.Words.{Wanted, wanted_in, wanted_without, wanted_of_texts}
 use Rattle.tp_words.proofs.NumeralLemmas.{limit_range}
 use Rattle.tp_words.proofs.SizeLemmas.{mode_size}

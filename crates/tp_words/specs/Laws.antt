@@ -2,9 +2,8 @@
 use Rattle.std.specs.Prelude.{◌≡◌, ◌≢◌, List, [], ◌∷◌, ℕ, true, false, Some, None, slice_index, codes}
 use Rattle.std.specs.Str.{IsUtf8}
 use Rattle.tp_words.specs.declared.mode.Mode.{Mode}
-use Rattle.tp_words.specs.Mode.{mode_text, needs_other}
+use Rattle.tp_words.specs.Options.{mode_text, needs_other, size_spelled}
 use Rattle.tp_words.specs.Subject.{IsSubjectOf}
-use Rattle.tp_words.specs.Size.{size_spelled}
 use Rattle.tp_words.specs.Words.{wanted_of}
 use Rattle.tp_words.specs.Usual.{usual_wanted}
 

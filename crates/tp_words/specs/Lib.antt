@@ -1,10 +1,4 @@
-pub mod App
-pub mod Numeral
-pub mod Limit
-pub mod Size
-pub mod Mode
-pub mod Order
-pub mod Beside
+pub mod Options
 pub mod Words
 pub mod Command
 pub mod Laws

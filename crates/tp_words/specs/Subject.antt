@@ -3,7 +3,7 @@ use Rattle.std.specs.Prelude.{◌≡◌, ℕ, List, Some}
 use Rattle.std.specs.Int.{IsInRange}
 use Rattle.tp_words.specs.declared.mode.Mode.{Mode}
 use Rattle.tp_words.specs.declared.mode.Mode.TheVariants.{Run, Print, Convert, Check, Drill}
-use Rattle.tp_words.specs.Size.{size_spelled, greatest_size}
+use Rattle.tp_words.specs.Options.{size_spelled, greatest_size}
 
 -- the size of a drill is one that words can ask for
 abbrev pub HasSize : Mode → Type 0

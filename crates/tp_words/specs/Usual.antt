@@ -3,7 +3,7 @@ use Rattle.std.specs.Prelude.{ℕ, List, None}
 use Rattle.tp_step.specs.declared.order.Order.TheVariants.{First}
 use Rattle.tp_words.specs.declared.beside.Beside.TheVariants.{Nothing}
 use Rattle.tp_words.specs.declared.mode.Mode.{Mode}
-use Rattle.tp_words.specs.Limit.{usual_states, usual_reductions}
+use Rattle.tp_words.specs.Options.{usual_states, usual_reductions}
 use Rattle.tp_words.specs.Words.{Wanted}
 
 -- this mode with this file and nothing else said

@@ -5,13 +5,9 @@ use Rattle.std.specs.List.{list_all}
 use Rattle.std.specs.Str.{bytes_eq, is_utf8}
 use Rattle.clap.specs.Words.{Row, Kinds, first_of, fault_of, matches_of}
 use Rattle.tp_step.specs.declared.order.Order.{Order}
-use Rattle.tp_words.specs.App.{the_app}
-use Rattle.tp_words.specs.Beside.{beside_given}
+use Rattle.tp_words.specs.Options.{the_app, beside_given, limit_set, usual_states, usual_reductions, mode_named, has_other, order_set}
 use Rattle.tp_words.specs.declared.beside.Beside.{Beside}
 use Rattle.tp_words.specs.declared.mode.Mode.{Mode}
-use Rattle.tp_words.specs.Limit.{limit_set, usual_states, usual_reductions}
-use Rattle.tp_words.specs.Mode.{mode_named, has_other}
-use Rattle.tp_words.specs.Order.{order_set}
 
 -- What is done, and with which file, which for a drill is the text of its size; of a check the file
 -- of the trace; of a run the file of the inputs, and what it writes beside each state; and of a run

@@ -1,7 +1,7 @@
 // The command line, as `clap` reads it.
 ghost use Rattle.std.specs.Prelude.{◌≡◌, IfOk, false};
 ghost use Rattle.clap.specs.Words.{app_of, rule_of};
-ghost use Rattle.tp_words.specs.App.{the_app, required_word, valued_option, plain_flag};
+ghost use Rattle.tp_words.specs.Options.{the_app, required_word, valued_option, plain_flag};
 
 use clap::{Arg, ArgAction, Command};
 use std::alloc::Global;

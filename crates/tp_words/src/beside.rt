@@ -1,6 +1,6 @@
 // What is written beside the states of a run.
 ghost use Rattle.std.specs.Prelude.{◌≡◌};
-ghost use Rattle.tp_words.specs.Beside.{beside_given};
+ghost use Rattle.tp_words.specs.Options.{beside_given};
 
 /// What a run writes beside each state.
 #[derive(Clone, Copy, Debug, PartialEq, Eq)]

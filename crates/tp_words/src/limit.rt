@@ -1,6 +1,6 @@
 // The limits that words set.
 ghost use Rattle.std.specs.Prelude.{◌≡◌, option_map};
-ghost use Rattle.tp_words.specs.Limit.{limit_set};
+ghost use Rattle.tp_words.specs.Options.{limit_set};
 
 use crate::numeral::numeral_within;
 

@@ -1,8 +1,7 @@
 // The modes by their names, and the files that they read.
 ghost use Rattle.std.specs.Prelude.{◌≡◌, option_map};
 ghost use Rattle.tp_words.specs.declared.mode.Mode.TheVariants.{Drill};
-ghost use Rattle.tp_words.specs.Size.{size_spelled};
-ghost use Rattle.tp_words.specs.Mode.{mode_named, needs_other, has_other};
+ghost use Rattle.tp_words.specs.Options.{size_spelled, mode_named, needs_other, has_other};
 
 use crate::mode::Mode;
 use crate::size::size_spelled;

@@ -2,7 +2,7 @@
 ghost use Rattle.std.specs.Prelude.{◌≡◌};
 ghost use Rattle.std.specs.Char.{is_ascii_digit};
 ghost use Rattle.std.specs.List.{list_all};
-ghost use Rattle.tp_words.specs.Numeral.{is_numeral, numeral_value, numeral_within};
+ghost use Rattle.tp_words.specs.Options.{is_numeral, numeral_value, numeral_within};
 
 // Whether each byte is a decimal digit.
 fn are_digits(text: &[u8]) -> bool

@@ -1,6 +1,6 @@
 // The order in which a run takes its items.
 ghost use Rattle.std.specs.Prelude.{◌≡◌, option_map};
-ghost use Rattle.tp_words.specs.Order.{order_named, order_set};
+ghost use Rattle.tp_words.specs.Options.{order_named, order_set};
 
 use crate::numeral::numeral_value;
 use tp_step::Order;

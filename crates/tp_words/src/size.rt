@@ -1,6 +1,6 @@
 // How many variables the source of a drill has.
 ghost use Rattle.std.specs.Prelude.{◌≡◌};
-ghost use Rattle.tp_words.specs.Size.{size_spelled};
+ghost use Rattle.tp_words.specs.Options.{size_spelled};
 
 use crate::numeral::numeral_within;
 

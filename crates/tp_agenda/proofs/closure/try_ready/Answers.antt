@@ -3,9 +3,9 @@ use Rattle.std.proofs.Common.{◌≡◌, ◌<◌, ℕ, List, [], ◌∷◌, ◌+
 use Rattle.std.specs.List.{All}
 use Rattle.tp_store.specs.Stock.{contents_in}
 use Rattle.tp_decide.specs.Decided.{setting_of}
-use Rattle.tp_step.specs.declared.answer.Tally.{Tally}
-use Rattle.tp_step.specs.declared.answer.Waits.{Waits}
-use Rattle.tp_step.specs.declared.answer.Wait.{Wait}
+use Rattle.tp_step.specs.declared.tally.Tally.{Tally}
+use Rattle.tp_step.specs.declared.tally.Waits.{Waits}
+use Rattle.tp_step.specs.declared.tally.Wait.{Wait}
 use Rattle.tp_step.specs.Answers.{moment_of}
 use Rattle.tp_step.specs.Closes.{Made}
 use Rattle.tp_step.proofs.Picks.{on_refusal, made_none}

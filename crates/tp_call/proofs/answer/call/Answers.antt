@@ -1,8 +1,9 @@
+use Rattle.std.proofs.Common.{[], None}
 use Rattle.tp_tree.specs.Read.{source_tree}
 use Rattle.tp_inputs.specs.Read.{inputs_of}
 use Rattle.tp_verdict.specs.Code.{verdict_of}
 use Rattle.tp_call.proofs.AnswerLemmas.{refused, spelled, table_written, verdict_written}
-use Rattle.tp_call.proofs.InOrderLemmas.{task_in_order, refused_in_order, printed_in_order}
+use Rattle.tp_call.proofs.InOrderLemmas.{task_in_order, refused_in_order, printed_in_order, refused_untried, printed_untried}
 use Rattle.tp_words.specs.declared.mode.Mode.TheVariants.{Run, Print, Convert, Check}
 use Rattle.tp_call.proofs.DrillClauses.{other_mode, run_apart, print_apart, convert_apart, check_apart, drill_stops, one_size, not_run}
 use Rattle.tp_call.proofs.answer.call.Goals as goal
@@ -90,3 +91,19 @@ pub returns-in-Ok-Drill-clause-work : goal.returns-in-Ok-Drill-clause-work
 returns-in-Ok-Drill-clause-work g c =
     let job = rw c.in-Ok-Drill.field-0-is at c.in-Ok-Drill.ensures.job in
     λ none. absurd (none _ job.asks)
+
+pub returns-in-Err-clause-work : goal.returns-in-Err-clause-work
+returns-in-Err-clause-work g c = λ none end.
+    absurd (refused_untried _ _ c.in-Err.status c.refuse.result _ _ _ c.in-Err.ensures.refused c.refuse.ensures.written end)
+
+pub returns-in-Ok-Print-clause-work : goal.returns-in-Ok-Print-clause-work
+returns-in-Ok-Print-clause-work g c = λ none end.
+    absurd (printed_untried [] None c.print_source.result _ _ _ c.print_source.ensures.written end)
+
+pub returns-in-Ok-Convert-clause-work : goal.returns-in-Ok-Convert-clause-work
+returns-in-Ok-Convert-clause-work g c = λ none end.
+    absurd (printed_untried [] None c.write_inputs.result _ _ _ c.write_inputs.ensures.written end)
+
+pub returns-in-Ok-Check-clause-work : goal.returns-in-Ok-Check-clause-work
+returns-in-Ok-Check-clause-work g c = λ none end.
+    absurd (printed_untried [] None c.write_verdict.result _ _ _ c.write_verdict.ensures.written end)

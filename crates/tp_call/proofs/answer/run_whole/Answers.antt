@@ -2,6 +2,8 @@ use Rattle.tp_call.specs.Task.{plan_of}
 use Rattle.tp_call.proofs.AnswerLemmas.{ended, closed, write_failed, memory_wanted, run_no_fault}
 use Rattle.tp_call.proofs.OrderLemmas.{no_end_in_order, closed_in_order}
 use Rattle.tp_call.proofs.WorkLemmas.{task_works}
+use Rattle.tp_call.proofs.TurnLemmas.{end_seen}
+use Rattle.tp_call.specs.declared.status.Status.TheVariants.{WriteFault, NoMemory}
 use Rattle.tp_call.proofs.answer.run_whole.Goals as goal
 
 pub returns-in-Err-Failed-clause-answer : goal.returns-in-Err-Failed-clause-answer
@@ -34,3 +36,9 @@ returns-in-Ok-clause-read g c = λ which e. run_no_fault _ c.in-Ok.ended _ _ _ c
 
 pub returns-in-Ok-clause-work : goal.returns-in-Ok-clause-work
 returns-in-Ok-clause-work g c = λ words held task end. task_works words held c.args.task _ _ _ _ _ c.in-Ok.ended _ task c.in-Ok.ensures.work c.finish.ensures.written end
+
+pub returns-in-Err-Failed-clause-work : goal.returns-in-Err-Failed-clause-work
+returns-in-Err-Failed-clause-work g c = λ words held task end. absurd (end_seen WriteFault end)
+
+pub returns-in-Err-NoMemory-clause-work : goal.returns-in-Err-NoMemory-clause-work
+returns-in-Err-NoMemory-clause-work g c = λ words held task end. absurd (end_seen NoMemory end)

@@ -1,5 +1,5 @@
 use Rattle.tp_call.proofs.ClauseLemmas.{finished, contradictory, undetermined, state_limit, reduction_limit, number_limit, list_limit, call_limit, nest_limit, input_missing, finished_text, open_text, done, words_refused_only, too_long_only, source_refused_only, inputs_refused_only, other_refused_only, trace_too_long_only}
-use Rattle.tp_call.proofs.AnsweredLemmas.{program_runs, source_prints, inputs_convert, words_refused, too_long, source_refused, inputs_refused, trace_is_checked, other_refused, trace_too_long}
+use Rattle.tp_call.proofs.AnsweredLemmas.{program_ends, source_prints, inputs_convert, words_refused, too_long, source_refused, inputs_refused, trace_is_checked, other_refused, trace_too_long}
 use Rattle.tp_call.proofs.EveryOrderLemmas.{comes_to_each_end}
 use Rattle.tp_call.proofs.TraceLemmas.{trace_says}
 use Rattle.tp_call.proofs.TracedTextLemmas.{finished_traced, open_traced}
@@ -42,7 +42,7 @@ returns-clause-input_missing g c = λ none. input_missing _ _ _ _ _ (c.call.ensu
 
 pub returns-clause-program_runs : goal.returns-clause-program_runs
 returns-clause-program_runs g c =
-    either_way c.args.words.now _ (λ none. program_runs _ _ _ _ _ (c.call.ensures.answer none))
+    either_way c.args.words.now _ (λ none. program_ends _ _ _ _ _ (c.call.ensures.answer none))
     (λ size asks files told plan asked. absurd (not_run _ size asks asked.wanted asked.accepted asked.mode))
 
 pub returns-clause-every_order : goal.returns-clause-every_order

@@ -3,7 +3,7 @@ use Rattle.std.specs.Char.{is_ascii_digit}
 use Rattle.std.specs.List.{list_all}
 use Rattle.std.proofs.lemmas.Bool.Decides.{nat_tests}
 use Rattle.tp_value.specs.Spelling.{decimal_value}
-use Rattle.tp_inputs.specs.Heads.{is_state, named_state, last_state}
+use Rattle.tp_inputs.specs.Spans.{is_state, named_state, last_state}
 use Rattle.tp_inputs.proofs.StateLemmas.{state_whole}
 use Rattle.tp_inputs.proofs.head.named_state.Goals as goal
 

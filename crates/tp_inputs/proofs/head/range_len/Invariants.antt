@@ -1,6 +1,6 @@
 use Rattle.std.proofs.Common.{◌≡◌, ◌+◌, ◌-◌, ◌≤◌, length, drop}
 use Rattle.std.specs.List.{prefix_len}
-use Rattle.tp_inputs.specs.Heads.{is_range_byte}
+use Rattle.tp_inputs.specs.Spans.{is_range_byte}
 use Rattle.tp_inputs.proofs.head.range_len.Given as goal
 
 abbrev pub invariant-loop-end : goal.invariant-loop-end

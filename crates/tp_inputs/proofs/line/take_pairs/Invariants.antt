@@ -1,5 +1,5 @@
 use Rattle.std.proofs.Common.{◌≡◌, true, length}
-use Rattle.tp_inputs.specs.Canonical.{are_ports}
+use Rattle.tp_inputs.specs.Spans.{are_ports}
 use Rattle.tp_inputs.specs.Model.{table_of}
 use Rattle.tp_inputs.proofs.LineLemmas.{Continues}
 use Rattle.tp_inputs.proofs.line.take_pairs.Given as goal

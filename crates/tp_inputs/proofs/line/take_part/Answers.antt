@@ -2,7 +2,7 @@ use Rattle.std.proofs.Common.{refl, ap, sym, ◌∙◌, ◌≡◌, Bool, true, f
 use Rattle.tp_value.specs.Read.{tree}
 use Rattle.tp_inputs.specs.declared.fault.Fault.TheVariants.{Twice}
 use Rattle.tp_inputs.specs.FirstPart.{Blank, Given, Faulty}
-use Rattle.tp_inputs.specs.Lines.{blank, given}
+use Rattle.tp_inputs.specs.Table.{blank, given}
 use Rattle.tp_inputs.specs.Model.{table_of}
 use Rattle.tp_inputs.specs.Read.{part_of}
 use Rattle.tp_inputs.specs.Spans.{is_given}

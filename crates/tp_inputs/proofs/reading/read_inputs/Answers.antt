@@ -2,8 +2,8 @@ use Rattle.std.proofs.Common.{List, ℕ, ◌≡◌, ◌∙◌, ◌∷◌, ap, sy
 use Rattle.std.proofs.lemmas.Grind.{common_steps}
 use Rattle.std.specs.Str.Lines.{lines}
 use Rattle.tp_inputs.specs.declared.span.Head.{Head}
-use Rattle.tp_inputs.specs.Heads.{has_ranges, head_of}
-use Rattle.tp_inputs.specs.Lines.{IsLine}
+use Rattle.tp_inputs.specs.Spans.{has_ranges, head_of}
+use Rattle.tp_inputs.specs.Table.{IsLine}
 use Rattle.tp_inputs.specs.Model.{table_of}
 use Rattle.tp_inputs.specs.Read.{IsLineRefusal}
 use Rattle.tp_inputs.specs.InputsRefusals.{IsInputsRefusal}

@@ -1,7 +1,6 @@
 use Rattle.std.proofs.Common.{◌≡◌, ◌+◌, ◌≤◌, true, length}
 use Rattle.std.specs.Str.Lines.{lines}
-use Rattle.tp_inputs.specs.Canonical.{are_ports}
-use Rattle.tp_inputs.specs.Heads.{has_ranges}
+use Rattle.tp_inputs.specs.Spans.{are_ports, has_ranges}
 use Rattle.tp_inputs.specs.Model.{table_of}
 use Rattle.tp_inputs.proofs.TableLemmas.{ReadsSoFar}
 use Rattle.tp_inputs.proofs.reading.read_inputs.Given as goal

@@ -7,9 +7,8 @@ use Rattle.tp_store.specs.Known.{lasting_facts}
 use Rattle.tp_store.specs.Stock.{Stock}
 use Rattle.tp_verdict.specs.Code.{verdict_of}
 use Rattle.tp_verdict.specs.Read.{wide_tree}
-use Rattle.tp_verdict.specs.Table.{verdict}
+use Rattle.tp_verdict.specs.Trace.{verdict, FactsOfStates, whole_verdict}
 use Rattle.tp_verdict.specs.Found.{found_in}
-use Rattle.tp_verdict.specs.Trace.{FactsOfStates, whole_verdict}
 use Rattle.tp_monitor.specs.Standing.{EachStandsFor}
 use Rattle.tp_monitor.proofs.KindLemmas.{stand_of_kinds, lasting_of_kinds}
 use Rattle.tp_monitor.proofs.JudgeLemmas.{torn_with, whole_with}

@@ -4,7 +4,7 @@ use Rattle.tp_tree.specs.Tree.{SourceTree}
 use Rattle.tp_tree.specs.Read.{source_tree}
 use Rattle.tp_parse.specs.declared.refusal.ParseRefusal.{ParseRefusal}
 use Rattle.tp_parse.specs.declared.refusal.ParseRefusal.TheVariants.{Unexpected, Unfinished, TooDeep, NoMemory}
-use Rattle.tp_parse.specs.Input.{Tokens}
+use Rattle.tp_parse.specs.Marks.{Tokens}
 use Rattle.tp_parse.specs.Source.{parse_outcome, IsOutcome, NamesToken}
 use Rattle.tp_parse.specs.Grammar.{Accepts}
 use Rattle.tp_parse.specs.Place.{BlamesFirst}

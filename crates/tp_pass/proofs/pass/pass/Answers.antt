@@ -1,7 +1,7 @@
 use Rattle.std.proofs.Common.{◌∙◌, ◌++◌, ◌∷◌, [], ap, refl, sym, Some}
 use Rattle.tp_store.specs.Stock.{contents_in}
 use Rattle.tp_decide.specs.Decided.{setting_of}
-use Rattle.tp_step.specs.declared.answer.Tally.{Tally}
+use Rattle.tp_step.specs.declared.tally.Tally.{Tally}
 use Rattle.tp_step.specs.Answers.{moment_of}
 use Rattle.tp_step.proofs.LiveNumbers.{live_below}
 use Rattle.tp_pass.proofs.OnePass.{ComesOfTurn, comes_of_turn, pass_begins, pass_is_whole, passes_over}

@@ -1,7 +1,7 @@
 use Rattle.std.proofs.Common.{◌≡◌, ◌++◌}
 use Rattle.tp_kernel.specs.Read.{formula_tree}
 use Rattle.tp_residual.specs.Chain.{naming_all, within_spelling, IsNoDeeper}
-use Rattle.tp_residual.specs.Words.{Vocabulary}
+use Rattle.tp_residual.specs.Phrases.{Vocabulary}
 use Rattle.tp_residual.proofs.chain.append_chain.Given as goal
 
 -- what is left comes behind, under the names so far

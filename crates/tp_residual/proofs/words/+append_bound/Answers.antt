@@ -2,7 +2,7 @@ use Rattle.std.proofs.Common.{◌≡◌, ◌++◌, ◌∷◌, [], ◌<◌, ◌�
 use Rattle.std.proofs.lemmas.Result.{on_ok_weaker}
 use Rattle.std.specs.List.{slice_get}
 use Rattle.std.proofs.lemmas.List.{append-nil}
-use Rattle.tp_residual.specs.Words.{named, bound_spelling}
+use Rattle.tp_residual.specs.Phrases.{named, bound_spelling}
 use Rattle.tp_residual.specs.Read.{bound_names, left_after, own_bound_names}
 use Rattle.tp_residual.proofs.BoundNames.{names_around, names_inside, names_chained, bound_within, bound_beyond, none_left, some_left, nothing_beyond, one_before}
 use Rattle.tp_residual.proofs.words.+append_bound.Goals as goal

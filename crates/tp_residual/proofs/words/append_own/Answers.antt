@@ -1,6 +1,6 @@
 use Rattle.std.proofs.Common.{◌≡◌, ◌++◌, ◌<◌, ◌≤◌, ◌-◌, ◌∙◌, Some, length, ap, sym, rules}
 use Rattle.std.proofs.lemmas.List.{append-nil}
-use Rattle.tp_residual.specs.Words.{bound_spelling}
+use Rattle.tp_residual.specs.Phrases.{bound_spelling}
 use Rattle.tp_residual.proofs.BoundNames.{own_within, own_beyond}
 use Rattle.tp_residual.proofs.words.append_own.Goals as goal
 

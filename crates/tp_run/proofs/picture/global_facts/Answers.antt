@@ -1,7 +1,7 @@
 use Rattle.std.proofs.Common.{rules}
 use Rattle.std.proofs.lemmas.List.Sorted.{answers_always}
 use Rattle.tp_store.specs.Stock.{contents_in}
-use Rattle.tp_show.specs.Parts.{is_before}
+use Rattle.tp_show.specs.Line.{is_before}
 use Rattle.tp_show.proofs.FactOrder.{is_before-order}
 use Rattle.tp_run.proofs.GlobalFacts.{appended_sorted}
 use Rattle.tp_run.proofs.picture.global_facts.Goals as goal

@@ -1,7 +1,7 @@
 use Rattle.std.proofs.Common.{None, List, ap, ◌∙◌}
 use Rattle.tp_value.specs.declared.path.Fact.{Fact}
 use Rattle.tp_store.specs.Known.{full}
-use Rattle.tp_show.specs.Parts.{parts_by}
+use Rattle.tp_show.specs.Line.{parts_by}
 use Rattle.tp_run.proofs.GlobalFacts.{parts_are}
 use Rattle.tp_run.proofs.picture.settled_picture.Goals as goal
 

@@ -1,4 +1,4 @@
-use Rattle.tp_run.specs.States.{Plan}
+use Rattle.tp_run.specs.History.{Plan}
 use Rattle.tp_run.specs.Runs.{IsRunOf}
 use Rattle.tp_run_tests.proofs.runs.states.Given as goal
 

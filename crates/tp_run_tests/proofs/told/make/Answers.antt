@@ -2,9 +2,8 @@ use Rattle.std.proofs.Common.{◌≡◌, sym, subst}
 use Rattle.tp_show.specs.declared.turn.Picture.{Picture}
 use Rattle.tp_show.specs.declared.turn.Turn.{Turn}
 use Rattle.tp_show.specs.declared.turn.Turn.TheVariants as turn
-use Rattle.tp_show.specs.Parts.{line_parts}
-use Rattle.tp_show.specs.Read.{plain_parts}
-use Rattle.tp_run.specs.States.{Plan}
+use Rattle.tp_show.specs.Line.{line_parts, plain_parts}
+use Rattle.tp_run.specs.History.{Plan}
 use Rattle.tp_run.specs.Standing.{RunPlace, Standing, open_at, answered, spent, StateBecomes, AnswersState}
 use Rattle.tp_run_tests.proofs.told.make.Goals as goal
 

@@ -1,8 +1,7 @@
 use Rattle.std.proofs.Common.{◌≡◌}
-use Rattle.tp_run.specs.States.{Plan}
+use Rattle.tp_run.specs.History.{Plan}
 use Rattle.tp_run.specs.Runs.{IsRunOf}
-use Rattle.tp_show.specs.Parts.{line_parts}
-use Rattle.tp_show.specs.Read.{plain_parts}
+use Rattle.tp_show.specs.Line.{line_parts, plain_parts}
 use Rattle.tp_run_tests.proofs.told.told.Given as goal
 
 abbrev pub invariant-loop : goal.invariant-loop

@@ -1,7 +1,6 @@
 use Rattle.std.proofs.Common.{◌≡◌, ◌++◌, take, map}
 use Rattle.std.specs.List.{flat_map}
-use Rattle.tp_show.specs.Read.{plain_part}
-use Rattle.tp_show.specs.Parts.{spaced_text}
+use Rattle.tp_show.specs.Line.{plain_part, spaced_text}
 use Rattle.tp_show.specs.Told.{ArePartsInRange}
 use Rattle.tp_show.proofs.line.append_parts.Given as goal
 

@@ -1,8 +1,7 @@
 use Rattle.std.proofs.Common.{◌≡◌, ◌++◌, None, drop, map}
 use Rattle.std.specs.Option.{option_copied}
 use Rattle.tp_store.specs.Known.{full}
-use Rattle.tp_show.specs.Read.{plain_part}
-use Rattle.tp_show.specs.Parts.{parts_by}
+use Rattle.tp_show.specs.Line.{plain_part, parts_by}
 use Rattle.tp_show.proofs.parts.known_parts.Given as goal
 
 abbrev pub invariant-loop-fact : goal.invariant-loop-fact

@@ -1,5 +1,5 @@
 use Rattle.std.proofs.Common.{◌≡◌, take}
-use Rattle.tp_show.specs.TraceFacts.{parts_facts}
+use Rattle.tp_show.specs.Trace.{parts_facts}
 use Rattle.tp_show.specs.TraceReading.{trace_parts_of}
 use Rattle.tp_show.proofs.trace_facts.all_facts.Given as goal
 

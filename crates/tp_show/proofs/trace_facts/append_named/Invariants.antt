@@ -1,5 +1,5 @@
 use Rattle.std.proofs.Common.{◌≡◌, ◌++◌, map, take}
-use Rattle.tp_show.specs.TraceFacts.{fact_named}
+use Rattle.tp_show.specs.Trace.{fact_named}
 use Rattle.tp_show.proofs.trace_facts.append_named.Given as goal
 
 abbrev pub invariant-loop-fact : goal.invariant-loop-fact

@@ -7,7 +7,7 @@ use Rattle.tp_store.specs.Known.{IsVariableOf, Variable, global_variable, additi
 use Rattle.tp_store.specs.Answers.{IsRefusal}
 use Rattle.tp_show.specs.declared.named_fact.NamedFact.{NamedFact}
 use Rattle.tp_show.specs.declared.trace_part.ReadPart.{ReadPart}
-use Rattle.tp_show.specs.TraceFacts.{TracePart, part_facts, parts_facts, have_clash}
+use Rattle.tp_show.specs.Trace.{TracePart, part_facts, parts_facts, have_clash}
 use Rattle.tp_show.specs.TraceReading.{trace_part_of, trace_parts_of}
 use Rattle.tp_show.specs.TraceFiling.{variable_facts}
 use Rattle.tp_show.proofs.TraceNumbers.{variable_is_of}

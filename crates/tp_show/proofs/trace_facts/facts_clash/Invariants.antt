@@ -2,7 +2,7 @@ use Rattle.std.proofs.Common.{◌≡◌, map, take}
 use Rattle.tp_store.specs.Known.{global_variable}
 use Rattle.tp_store.specs.Stock.{contents_in}
 use Rattle.tp_store.specs.Changes.{IsSoundStore}
-use Rattle.tp_show.specs.TraceFacts.{parts_facts}
+use Rattle.tp_show.specs.Trace.{parts_facts}
 use Rattle.tp_show.specs.TraceReading.{trace_parts_of}
 use Rattle.tp_show.proofs.TraceFiled.{IsFiled}
 use Rattle.tp_show.proofs.trace_facts.facts_clash.Given as goal

@@ -1,6 +1,6 @@
 use Rattle.std.proofs.Common.{◌≡◌, List, ℕ, sym, ap, ◌∙◌, subst, true}
 use Rattle.tp_show.specs.declared.trace_part.ReadPart.{ReadPart}
-use Rattle.tp_show.specs.TraceFacts.{parts_facts, have_clash}
+use Rattle.tp_show.specs.Trace.{parts_facts, have_clash}
 use Rattle.tp_show.specs.TraceReading.{ArePartsFound, found_parts, trace_parts_of}
 use Rattle.tp_show.proofs.TraceLines.{no_parts_there, clash_there}
 use Rattle.tp_show.proofs.trace_line.state_facts.Goals as goal

@@ -1,7 +1,7 @@
 use Rattle.std.proofs.Common.{◌≡◌, ℕ, List, ◌∙◌, sym, ap, subst, Some, take, drop}
 use Rattle.std.proofs.lemmas.Option.{none-some}
 use Rattle.tp_value.specs.Limits.{length_limit}
-use Rattle.tp_show.specs.TraceFacts.{has_length}
+use Rattle.tp_show.specs.Trace.{has_length}
 use Rattle.tp_show.specs.TraceReading.{len_before, digits_within, IsPathFound, IsLengthAt}
 use Rattle.tp_show.proofs.TraceParts.{LengthThere, length_there, length_at}
 use Rattle.tp_show.proofs.trace_part.length_part.Goals as goal

@@ -1,7 +1,7 @@
 use Rattle.std.proofs.Common.{◌≤◌, ℕ, List, sym, arith, subst, length}
 use Rattle.std.proofs.lemmas.Grind.{common_steps}
 use Rattle.tp_value.specs.Limits.{path_limit}
-use Rattle.tp_show.specs.TraceLine.{SpellsPath}
+use Rattle.tp_show.specs.Trace.{SpellsPath}
 use Rattle.tp_show.specs.TraceReading.{AreIndicesFound}
 use Rattle.tp_show.proofs.TraceNames.{no_name_there, no_indices_there, too_many_there, path_there}
 use Rattle.tp_show.proofs.trace_path.read_path.Goals as goal

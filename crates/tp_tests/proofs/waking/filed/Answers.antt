@@ -1,7 +1,7 @@
 -- One wait more is filed.
 use Rattle.std.proofs.Common.{◌≡◌, ◌+◌, ◌<◌, Bool, false, List, [], ◌∷◌, ◌++◌, take, length, length-append, get_or, sym, ◌∙◌, subst, ap, arith, rules}
 use Rattle.std.proofs.lemmas.List.{length-take-le, take_more}
-use Rattle.tp_step.specs.declared.answer.Wait.{Wait}
+use Rattle.tp_step.specs.declared.tally.Wait.{Wait}
 use Rattle.tp_agenda.specs.Index.{IsFiled}
 use Rattle.tp_tests.proofs.waking.filed.Goals as goal
 

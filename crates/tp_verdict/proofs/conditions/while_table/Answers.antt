@@ -4,7 +4,7 @@ use Rattle.tp_eval.specs.declared.outcome.Outcome.{Outcome}
 use Rattle.tp_kernel.specs.Read.{expr_tree}
 use Rattle.tp_value.specs.Tree.{truth}
 use Rattle.tp_verdict.specs.Verdict.{value_verdict}
-use Rattle.tp_verdict.specs.Table.{verdict}
+use Rattle.tp_verdict.specs.Trace.{verdict}
 use Rattle.tp_verdict.specs.Code.{verdict_of}
 use Rattle.tp_verdict.specs.Found.{found_in}
 use Rattle.tp_verdict.proofs.LeafLemmas.{while_kind, listed_is}

@@ -1,5 +1,5 @@
 use Rattle.tp_verdict.specs.Wide.{negation, sometimes}
-use Rattle.tp_verdict.specs.Table.{verdict}
+use Rattle.tp_verdict.specs.Trace.{verdict}
 use Rattle.tp_verdict.proofs.KindLemmas.{always_kind}
 use Rattle.tp_verdict.proofs.kinds.always_table.Goals as goal
 

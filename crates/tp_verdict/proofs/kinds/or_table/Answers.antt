@@ -1,5 +1,5 @@
 use Rattle.std.proofs.Common.{arith}
-use Rattle.tp_verdict.specs.Table.{verdict}
+use Rattle.tp_verdict.specs.Trace.{verdict}
 use Rattle.tp_verdict.proofs.KindLemmas.{or_kind}
 use Rattle.tp_verdict.proofs.kinds.or_table.Goals as goal
 

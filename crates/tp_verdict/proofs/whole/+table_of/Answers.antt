@@ -3,7 +3,7 @@ use Rattle.std.proofs.lemmas.Result.{IfOk-weaker}
 use Rattle.tp_kernel.specs.Read.{expr_tree}
 use Rattle.tp_kernel.specs.declared.formula.Expr.{Expr}
 use Rattle.tp_verdict.specs.Wide.{WideTree, chop, while, sometimes}
-use Rattle.tp_verdict.specs.Table.{verdict}
+use Rattle.tp_verdict.specs.Trace.{verdict}
 use Rattle.tp_verdict.specs.Found.{found_in}
 use Rattle.tp_verdict.specs.Stored.{HaveVerdicts}
 use Rattle.tp_verdict.specs.Read.{wide_tree}

@@ -1,7 +1,7 @@
 -- What the step marked is near, as it was asked for what was tried.
 use Rattle.std.proofs.Common.{◌≡◌, List, sym, subst, rules}
 use Rattle.tp_step.specs.declared.answer.Tried.{Tried}
-use Rattle.tp_step.specs.declared.answer.Wait.{Wait}
+use Rattle.tp_step.specs.declared.tally.Wait.{Wait}
 use Rattle.tp_agenda.specs.Board.{NewsAreNear}
 use Rattle.tp_agenda.specs.Outward.{WaitsAreNear}
 use Rattle.tp_agenda.proofs.board.Board.take_in.Goals as goal

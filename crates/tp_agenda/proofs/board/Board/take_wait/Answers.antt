@@ -1,6 +1,6 @@
 -- One wait more is held by the board.
 use Rattle.std.proofs.Common.{◌≡◌, Bool, false, List, [], ◌∷◌, ◌++◌, length, length-append, sym, subst, ap, arith, rules}
-use Rattle.tp_step.specs.declared.answer.Wait.{Wait}
+use Rattle.tp_step.specs.declared.tally.Wait.{Wait}
 use Rattle.tp_agenda.specs.Index.{IsFiled}
 use Rattle.tp_agenda.proofs.board.Board.take_wait.Goals as goal
 

@@ -1,7 +1,7 @@
 -- One region after the other is taken, where it is due, or passed over.
 use Rattle.std.proofs.Common.{◌≡◌, ◌⊎◌, ◌<◌, ℕ, List, [], ◌∷◌, ◌++◌, true, false, sym, subst}
 use Rattle.std.specs.List.{All}
-use Rattle.tp_step.specs.declared.answer.Wait.{Wait}
+use Rattle.tp_step.specs.declared.tally.Wait.{Wait}
 use Rattle.tp_lanes.specs.Planes.{flag}
 use Rattle.tp_agenda.specs.Held.{IsAmong}
 use Rattle.tp_agenda.specs.Taking.{TakesRegions}

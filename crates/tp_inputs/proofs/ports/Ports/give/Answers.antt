@@ -12,8 +12,7 @@ use Rattle.tp_meaning.specs.Inputs.{row_value}
 use Rattle.tp_inputs.specs.declared.span.Span.{Span}
 use Rattle.tp_inputs.specs.declared.span.Span.TheVariants.{States, Others}
 use Rattle.tp_inputs.specs.declared.ports.Port.{Port}
-use Rattle.tp_inputs.specs.Canonical.{are_ports}
-use Rattle.tp_inputs.specs.Spans.{span_has, is_others, port_meets, is_given, GivesValue}
+use Rattle.tp_inputs.specs.Spans.{are_ports, span_has, is_others, port_meets, is_given, GivesValue}
 use Rattle.tp_inputs.specs.Model.{rows_of, default_of, named_port}
 use Rattle.tp_inputs.specs.Moves.{GivesPort}
 use Rattle.tp_inputs.proofs.PortLemmas.{Key, key_cmp, Entries, name_cmp, table_in, Changes, named, met, rows_apart, gives, set_changes, insert_changes, set_ports, insert_ports, names_ordered, rows_in, default_in}

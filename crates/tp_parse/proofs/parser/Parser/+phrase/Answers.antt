@@ -3,10 +3,9 @@ use Rattle.std.proofs.lemmas.Grind.{common_steps}
 use Rattle.std.proofs.lemmas.List.{map_push}
 use Rattle.std.proofs.lemmas.Result.{err_from_is_err_and}
 use Rattle.tp_tree.specs.Read.{phrase_tree}
-use Rattle.tp_parse.specs.Marks.{before, role_at}
+use Rattle.tp_parse.specs.Marks.{before, role_at, Tokens, mark}
 use Rattle.tp_parse.specs.declared.mark.Role.TheVariants.{Ends}
-use Rattle.tp_parse.specs.Input.{Tokens, mark}
-use Rattle.tp_parse.specs.Found.{operands_of}
+use Rattle.tp_parse.specs.Grammar.{operands_of}
 use Rattle.tp_parse.specs.Seen.{seen}
 use Rattle.tp_parse.specs.Reading.{read, operations, go, others, others_from, levels}
 use Rattle.tp_parse.proofs.Steps.{one_more, no_more, NoneBetween, read_levels, levels_first, level_next, err_last, operations_end}

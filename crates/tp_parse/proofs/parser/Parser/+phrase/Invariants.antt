@@ -1,6 +1,6 @@
 use Rattle.std.proofs.Common.{◌≡◌, ◌+◌, ◌*◌, ◌-◌, ◌≤◌, map, Ok}
 use Rattle.tp_tree.specs.Read.{phrase_tree}
-use Rattle.tp_parse.specs.Found.{operands_of}
+use Rattle.tp_parse.specs.Grammar.{operands_of}
 use Rattle.tp_parse.specs.Seen.{seen}
 use Rattle.tp_parse.specs.Reading.{read, levels, operations, go, others, others_from}
 use Rattle.tp_parse.proofs.parser.Parser.+phrase.Given as goal

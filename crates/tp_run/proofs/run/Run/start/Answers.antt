@@ -4,7 +4,7 @@ use Rattle.tp_inputs.specs.Read.{inputs_of}
 use Rattle.tp_store.specs.Known.{Contents}
 use Rattle.tp_scene.specs.Scene.{Scene}
 use Rattle.tp_scene.specs.Pick.{Moment}
-use Rattle.tp_run.specs.States.{Plan, plan_with}
+use Rattle.tp_run.specs.History.{Plan, plan_with}
 use Rattle.tp_run.specs.Standing.{open_at}
 use Rattle.tp_run.specs.Meaning.{StandsForItsProgram}
 use Rattle.tp_run.specs.Runs.{StandsOrderly}

@@ -6,8 +6,7 @@ use Rattle.std.proofs.lemmas.Slice.Zip.{Zip-more, either_empty_from_Zip}
 use Rattle.tp_tree.specs.declared.phrase.Definition.{Definition}
 use Rattle.tp_tree.specs.Read.{definition_tree}
 use Rattle.tp_scope.specs.Scope as plain
-use Rattle.tp_scope.specs.Names.{has_repeat}
-use Rattle.tp_scope.specs.Definitions.{signatures_of}
+use Rattle.tp_scope.specs.Names.{has_repeat, signatures_of}
 use Rattle.tp_scope.specs.Seen.{names_of_definitions}
 use Rattle.tp_scope.proofs.Apart.{none_before}
 use Rattle.tp_scope.proofs.Called.{Entries, entry_seen, names_more, known_more, none_known}

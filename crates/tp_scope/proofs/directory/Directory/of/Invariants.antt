@@ -1,7 +1,7 @@
 use Rattle.std.proofs.Common.{◌≡◌, ◌++◌, map}
 use Rattle.std.specs.Map.{keys_of}
 use Rattle.tp_tree.specs.Read.{definition_tree}
-use Rattle.tp_scope.specs.Definitions.{signatures_of}
+use Rattle.tp_scope.specs.Names.{signatures_of}
 use Rattle.tp_scope.specs.Seen.{names_of_definitions}
 use Rattle.tp_scope.proofs.Called.{entry_seen}
 use Rattle.tp_scope.proofs.directory.Directory.of.Given as goal
