@@ -62,7 +62,7 @@ module _ (facts : List Fact) (defs : List Definition) (env : Bindings) where
       by_letter true = ap (λ o. row.with_place o f) (shared_place e t h)
       by_letter false = ap (λ o. row.with_value o (λ v. f (known_binding v))) (shared_value e t h)
 
-  kept_outcome : (e : ExprTree) (t : Tree) → IsNamedValue facts (named_path e env) t → outcome facts defs e env ≡ found.value t
+  pub kept_outcome : (e : ExprTree) (t : Tree) → IsNamedValue facts (named_path e env) t → outcome facts defs e env ≡ found.value t
   kept_outcome e t h = sym (eval_is facts defs e env (found.value t) (ap outcome_reached (sym (named_value_reached facts t 0 defs env depth_limit e (omega arith) h))))
 
   -- and so is the list that the store keeps, where the parameter stands for a value

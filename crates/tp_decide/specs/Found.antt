@@ -21,9 +21,16 @@ use Rattle.tp_decide.specs.declared.decision.Decision.{Decision}
 use Rattle.tp_decide.specs.declared.sides.Target.{Target}
 use Rattle.tp_decide.specs.declared.sides.Target.TheVariants as target
 use Rattle.tp_decide.specs.declared.sides.Side.{Side}
+use Rattle.tp_decide.specs.declared.found.SharedOutcome.{SharedOutcome}
+use Rattle.tp_decide.specs.declared.found.SharedOutcome.TheVariants as shared
 use Rattle.tp_decide.specs.declared.phrase.Values.{Values}
 use Rattle.tp_decide.specs.Read.{values_of}
 use Rattle.tp_decide.specs.Decided.{Decides}
+
+-- what an evaluation gave, whether its value is shared or not
+abbrev pub shared_outcome : SharedOutcome → found.Outcome
+shared_outcome (shared.Value v) = found.value (tree v.value)
+shared_outcome (shared.Other o) = outcome_tree o
 
 -- a value that was found, or what is decided without one
 abbrev pub ValueIn : found.Outcome → Result Value Decision → Type 0

@@ -9,11 +9,11 @@ ghost use Rattle.tp_scene.specs.Scene as S;
 ghost use Rattle.tp_scene.specs.Step as row;
 ghost use Rattle.tp_decide.specs.Decided.{Decides, IfOkDecides, becomes_due, plain_place};
 ghost use Rattle.tp_decide.specs.Fits.{IsPlain};
-ghost use Rattle.tp_decide.specs.Found.{IsShorter};
+ghost use Rattle.tp_decide.specs.Found.{shared_outcome, IsShorter};
 
 use crate::decision::{Decision, Place, becomes_one, due, nothing};
 use crate::formula::decide_next;
-use crate::found::{number, truth, value};
+use crate::found::{SharedOutcome, number, truth, value};
 use std::alloc::Global;
 use std::rc::Rc;
 use tp_eval::Outcome;
@@ -106,11 +106,10 @@ pub fn decide_len(alloc: Global, found: Outcome, env: &Rc<Env>) -> Result<Decisi
 }
 
 // The equation of a target with a value that was found.
-fn equation(alloc: Global, target: &Rc<Expr>, value: Value) -> Result<Formula, NoMemory>
+fn equation(alloc: Global, target: &Rc<Expr>, value: Rc<Value>) -> Result<Formula, NoMemory>
     ensures { IfOk result (λ w.
-        formula_tree w ≡ equation (expr_tree target.now.value) (known (tree value))) }
+        formula_tree w ≡ equation (expr_tree target.now.value) (known (tree value.value))) }
 {
-    let value = Rc::new(alloc, value)?;
     let value = Rc::new(alloc, Expr::Known(value))?;
     Ok(Formula::Eq(target.clone()?, value))
 }
@@ -130,6 +129,7 @@ pub fn decide_assign(
 {
     match value(found) {
         Ok(value) => {
+            let value = Rc::new(alloc, value)?;
             let equal = Rc::new(alloc, equation(alloc, target, value)?)?;
             let at_end = Rc::new(alloc, Formula::IfEmpty(equal))?;
             let all = Rc::new(alloc, Formula::Always(at_end))?;
@@ -151,18 +151,44 @@ fn under_nexts(alloc: Global, count: u32, formula: Formula) -> Result<Rc<Formula
     Ok(whole)
 }
 
-/// The target has the value after so many states.
-pub fn decide_next_equation(
+// The target has this value after so many states.
+fn equal_after(
     alloc: Global,
     count: u32,
     target: &Rc<Expr>,
-    found: Outcome,
+    value: Rc<Value>,
     env: &Rc<Env>,
     place: Place,
 ) -> Result<Decision, NoMemory>
     requires { 1 ≤ count }
     ensures outcome { IfOkDecides result (λ n.
-        row.with_value (outcome_tree found) (λ v.
+        row.going (plain_place place)
+        (S.leaf (n.item 0)
+        (S.Later
+        (nexts (count - 1) (equation (expr_tree target.now.value) (known (tree value.value))))
+        (bindings_of env.now.value))
+        S.none)
+        1) }
+    ensures plain { IfOk result IsPlain }
+{
+    let equal = equation(alloc, target, value)?;
+    let whole = under_nexts(alloc, count - 1, equal)?;
+    let decision = decide_next(&whole, env, place)?;
+    Ok(decision)
+}
+
+/// The target has the value after so many states.
+pub fn decide_next_equation(
+    alloc: Global,
+    count: u32,
+    target: &Rc<Expr>,
+    found: SharedOutcome,
+    env: &Rc<Env>,
+    place: Place,
+) -> Result<Decision, NoMemory>
+    requires { 1 ≤ count }
+    ensures outcome { IfOkDecides result (λ n.
+        row.with_value (shared_outcome found) (λ v.
         row.going (plain_place place)
         (S.leaf (n.item 0)
         (S.Later (nexts (count - 1) (equation (expr_tree target.now.value) (known v)))
@@ -171,13 +197,14 @@ pub fn decide_next_equation(
         1)) }
     ensures plain { IfOk result IsPlain }
 {
-    match value(found) {
-        Ok(value) => {
-            let equal = equation(alloc, target, value)?;
-            let whole = under_nexts(alloc, count - 1, equal)?;
-            let decision = decide_next(&whole, env, place)?;
-            Ok(decision)
-        }
-        Err(decision) => Ok(decision),
+    match found {
+        SharedOutcome::Value(value) => equal_after(alloc, count, target, value, env, place),
+        SharedOutcome::Other(found) => match value(found) {
+            Ok(value) => {
+                let value = Rc::new(alloc, value)?;
+                equal_after(alloc, count, target, value, env, place)
+            }
+            Err(decision) => Ok(decision),
+        },
     }
 }

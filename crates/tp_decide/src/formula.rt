@@ -19,6 +19,7 @@ use crate::equation::{decide_equation, decide_input};
 use crate::evaluated::{
     decide_assign, decide_branch, decide_len, decide_next_equation, decide_test,
 };
+use crate::found::eval_shared;
 use crate::leaves::Leaves;
 use crate::phrase::Phrase;
 use crate::regions::{RegionKind, decide_exists, decide_region};
@@ -210,7 +211,7 @@ pub fn decide(
         }
         Formula::Eq(l, r) => decide_equation(alloc, l, r, env, store, setting),
         Formula::NextEq(k, t, e) => {
-            let found = eval(alloc, e, env, store, setting.defs)?;
+            let found = eval_shared(alloc, e, env, store, setting.defs)?;
             decide_next_equation(alloc, *k, t, found, env, place)
         }
         Formula::Empty => Ok(end(place)),

@@ -1,21 +1,50 @@
 // What is found where an expression is evaluated: a value of the kind that is needed, or what its item does without one.
-ghost use Rattle.std.specs.Prelude.{IfOk, IfErr};
+ghost use Rattle.std.specs.Prelude.{◌≡◌, IfOk, IfErr};
 ghost use Rattle.tp_kernel.specs.Read.{expr_tree, definitions_of, bindings_of};
 ghost use Rattle.tp_eval.specs.Answers.{outcome_tree};
 ghost use Rattle.tp_eval.specs.Outcome.{outcome};
 ghost use Rattle.tp_scene.specs.Step as row;
 ghost use Rattle.tp_decide.specs.Decided.{Decides};
 ghost use Rattle.tp_decide.specs.Fits.{IsPlain};
-ghost use Rattle.tp_decide.specs.Found.{TruthIn, NumberIn, ValueIn};
+ghost use Rattle.tp_decide.specs.Found.{shared_outcome, TruthIn, NumberIn, ValueIn};
 
 use crate::decision::Decision;
 use crate::setting::Setting;
 use std::alloc::Global;
-use tp_eval::{Outcome, eval};
-use tp_kernel::{Env, Expr, FaultKind};
+use std::rc::Rc;
+use tp_eval::{Outcome, eval, kept_value};
+use tp_kernel::{Defs, Env, Expr, FaultKind};
 use tp_scene::{Cell, Clash};
 use tp_store::Store;
 use tp_value::{NoMemory, Number, Value};
+
+/// What an evaluation gave. The list of a variable that stands whole is shared, and not copied.
+#[derive(Drop)]
+pub enum SharedOutcome {
+    Value(Rc<Value>),
+    Other(Outcome),
+}
+
+/// What the evaluation of the expression gives.
+pub fn eval_shared(
+    alloc: Global,
+    expr: &Expr,
+    env: &Env,
+    store: &Store,
+    defs: &Defs,
+) -> Result<SharedOutcome, NoMemory>
+    ensures { IfOk result (λ found.
+        shared_outcome found
+        ≡ outcome store.now.facts (definitions_of defs.now) (expr_tree expr.now)
+        (bindings_of env.now)) }
+{
+    if let Some(value) = kept_value(alloc, expr, env, store) {
+        let value = value.clone()?;
+        return Ok(SharedOutcome::Value(value));
+    }
+    let found = eval(alloc, expr, env, store, defs)?;
+    Ok(SharedOutcome::Other(found))
+}
 
 /// The value that an evaluation gave.
 pub fn value(outcome: Outcome) -> Result<Value, Decision>
