@@ -72,9 +72,9 @@ fn call<L: Ledger, F: Files, K: Sink>(
     out: &mut K,
     blank: Blank,
 ) -> Status
+    requires some { 0 < L.parts }
     requires name { blank.name ≡ L.name }
     requires parts { blank.parts ≡ L.parts }
-    requires some { 0 < L.parts }
 {
     let mut steps = Steps::<L>::new(blank);
     tempura(alloc, words, files, out, &mut steps)
