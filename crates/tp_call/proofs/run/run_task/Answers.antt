@@ -1,4 +1,4 @@
-use Rattle.std.proofs.Common.{ℕ, ◌≡◌, ◌≤◌, ◌<◌, Option, None, Some, Err, ap, inr, refl, ◌∙◌, arith}
+use Rattle.std.proofs.Common.{ℕ, ◌≡◌, ◌≤◌, ◌<◌, Option, None, Some, Result, Err, ap, inr, refl, ◌∙◌, arith}
 use Rattle.std.proofs.lemmas.Result.{err_from_is_err_and}
 use Rattle.tp_io.specs.Held.{Rose}
 use Rattle.tp_io.specs.declared.refusal.WriteRefusal.TheVariants.{Failed}
@@ -12,6 +12,10 @@ use Rattle.tp_call.proofs.run.run_task.Goals as goal
 
 up_to : (a b c : ℕ) → a ≤ b → b ≤ c → a ≤ c
 up_to a b c h k = omega arith
+
+-- equal refusals are of equal causes
+error_is : {A E : Type 0} (r : Result A E) (x y : E) → r ≡ Err x → r ≡ Err y → x ≡ y
+error_is r x y p q = cc (p, q)
 
 -- a count that rose since then has risen since an earlier time, too
 rose_since : (greatest : Option ℕ) (before middle now : ℕ) → before ≤ middle → Rose greatest middle now → Rose greatest before now
@@ -41,7 +45,7 @@ returns-in_err-turn-clause-made g c =
 pub returns-in_err-turn-clause-cause : goal.returns-in_err-turn-clause-cause
 returns-in_err-turn-clause-cause g c =
     let p = err_from_is_err_and c.from_residual-in_err-turn.result c.from_residual-in_err-turn.ensures.1 in
-    rw (p.1, p.2) (λ failed. let is : c.in_err-turn.field-0.0 ≡ Failed = cc (failed) in rose_since _ _ _ _ c.loop-picture.invariant.later (c.in_err-turn.ensures.cause (ap Err is)))
+    rw (p.1, p.2) (λ failed. rose_since _ _ _ _ c.loop-picture.invariant.later (c.in_err-turn.ensures.cause (ap Err (error_is _ _ _ refl failed))))
 
 pub returns-in-Some-clause-made : goal.returns-in-Some-clause-made
 returns-in-Some-clause-made g c =
