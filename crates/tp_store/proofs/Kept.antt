@@ -7,6 +7,7 @@ use Rattle.tp_store.specs.Changes.{HaveSameShapes}
 use Rattle.tp_store.proofs.Paths.{same_path-sym, clash-sym}
 use Rattle.tp_store.proofs.Members.{In, in_left, in_right, in_append, kept_none, none_kept, meets_none, none_meets}
 use Rattle.tp_store.proofs.Same.{same_kept}
+use Rattle.tp_store.proofs.States.{agree_all}
 use Rattle.tp_store.proofs.Trees.{AddsFact, NoClash-insert}
 
 -- The facts are those of the old ones and of the news, in some order, and don't clash.
@@ -57,6 +58,35 @@ module _ (old news : List Fact) (i : ℕ) (f : Fact) (new : List Fact) (apart : 
 
   apart_next : clashes_with_some new f ≡ false
   apart_next = meets_none new f (λ g j. (before g j).1)
+
+  pub next_apart : NoClash (new ++ f ∷ [])
+  next_apart =
+      let N : List Fact → Type 0 = λ fs. NoClash fs in
+      let K : List Fact → Type 0 = λ fs. kept_shape fs f.path ≡ None in
+      let C : List Fact → Type 0 = λ fs. clashes_with_some fs f ≡ false in
+      let e = sym (append-nil new) in
+      NoClash-insert new [] f (subst N e kept.no_clash) (subst K e absent_next) (subst C e apart_next)
+
+  -- the same, of facts that give each path the shape that these give it
+  pub kept_so : (more : List Fact) → NoClash more → HaveSameShapes more (new ++ f ∷ []) → AreKept old (take i news ++ f ∷ []) more
+  kept_so more n s =
+      let all = λ (g : Fact). agree_all more (new ++ f ∷ []) n next_apart s g.path.var in
+      let same : (old ++ take i news) ++ f ∷ [] ≡ old ++ (take i news ++ f ∷ []) = append_assoc old (take i news) (f ∷ []) in
+      record {
+        no_clash = n;
+        there = λ g j.
+            (let I : List Fact → Type 0 = λ fs. In g fs in
+            elim (in_append g new (f ∷ []) ((all g).there g refl j)) [
+              | inl m ↦ subst I same (in_left g (old ++ take i news) (f ∷ []) (kept.there g m))
+              | inr m ↦ subst I same (in_right g (old ++ take i news) (f ∷ []) m)
+            ]);
+        back = λ g j.
+            (let I : List Fact → Type 0 = λ fs. In g fs in
+            elim (in_append g (old ++ take i news) (f ∷ []) (subst I (sym same) j)) [
+              | inl m ↦ (all g).back g refl (in_left g new (f ∷ []) (kept.back g m))
+              | inr m ↦ (all g).back g refl (in_right g new (f ∷ []) m)
+            ]);
+      }
 
   pub kept_next : (more : List Fact) → AddsFact new f more → AreKept old (take i news ++ f ∷ []) more
   kept_next more a =

@@ -16,7 +16,7 @@ use Rattle.tp_store.specs.declared.nodes.Node.{Node}
 use Rattle.tp_store.specs.FactMap.{lacks_item, outer_path}
 use Rattle.tp_store.specs.Facts.{has_item, excludes, kept_shape, is_excluded}
 use Rattle.tp_store.specs.Known.{NoClash}
-use Rattle.tp_store.specs.Nodes.{same_edge, edge, child, node_or_none, node_from, routes, facts_along, shape_among, shape_found, beyond_among, with_node, way_of, AreBeyond, AreNarrow, AreWays, IsRooted, lacks_way, lacks_below, lacks_path}
+use Rattle.tp_store.specs.Nodes.{same_edge, edge, child, node_or_none, node_from, routes, facts_along, shape_among, shape_found, beyond_among, with_node, way_of, AreBeyond, AreNarrow, IsRooted, lacks_way, lacks_below, lacks_path, room_for}
 use Rattle.tp_store.proofs.Members.{In}
 use Rattle.tp_store.proofs.FactMapLemmas.{excluded_at, excluded_here, none_excludes}
 use Rattle.tp_store.proofs.Routes.{child_found, child_there, node_back, node_more, length_of_routes}
@@ -120,36 +120,6 @@ pub node_kept : (old new more : List Edge) (ks : List ℕ) (m : ℕ) → new ≡
 node_kept old new more ks m g d at =
     let D : List Edge → Type 0 = λ es. IsDistinct same_edge es in
     subst (λ es. node_from es ks 0 ≡ Some m) (sym g) (node_still old more ks 0 m (subst D g d) at)
-
-pub ways_kept : (old new more : List Edge) (fs : List Fact) (ns : List ℕ) → new ≡ old ++ more → IsDistinct same_edge new → AreWays old fs ns → AreWays new fs ns
-ways_kept old new more [] ns g d h = tt
-ways_kept old new more (f ∷ fs) [] g d h = absurd h
-ways_kept old new more (f ∷ fs) (n ∷ ns) g d h = (node_kept old new more (way_of f.path) n g d h.0, ways_kept old new more fs ns g d h.1)
-
-pub ways_more : (es : List Edge) (fs : List Fact) (ns : List ℕ) (f : Fact) (n : ℕ) → AreWays es fs ns → length ns ≡ length fs → node_from es (way_of f.path) 0 ≡ Some n → AreWays es (fs ++ f ∷ []) (ns ++ n ∷ [])
-ways_more es [] [] f n h l e = (e, tt)
-ways_more es [] (m ∷ ns) f n h l e = absurd (omega arith)
-ways_more es (g ∷ fs) [] f n h l e = absurd h
-ways_more es (g ∷ fs) (m ∷ ns) f n h l e = (h.0, ways_more es fs ns f n h.1 (omega arith) e)
-
-pub way_at : (es : List Edge) (fs : List Fact) (ns : List ℕ) (i : ℕ) (f : Fact) (n : ℕ) → AreWays es fs ns → slice_get fs i ≡ Some f → slice_get ns i ≡ Some n → node_from es (way_of f.path) 0 ≡ Some n
-way_at es [] ns i f n h p q = absurd (cc)
-way_at es (g ∷ fs) [] i f n h p q = absurd h
-way_at es (g ∷ fs) (m ∷ ns) zero f n h p q =
-    let a : g ≡ f = cc p in
-    let b : m ≡ n = cc q in
-    ap (λ (x : Fact). node_from es (way_of x.path) 0) (sym a) ∙ h.0 ∙ ap Some b
-way_at es (g ∷ fs) (m ∷ ns) (suc i) f n h p q = way_at es fs ns i f n h.1 p q
-
-pub ways_long : (es : List Edge) (fs : List Fact) (ns : List ℕ) → AreWays es fs ns → length fs ≤ length ns
-ways_long es [] ns h = omega arith
-ways_long es (f ∷ fs) [] h = absurd h
-ways_long es (f ∷ fs) (n ∷ ns) h = let r = ways_long es fs ns h.1 in omega (arith, r)
-
-pub way_here : (es : List Edge) (fs : List Fact) (ns : List ℕ) (i : ℕ) (f : Fact) → AreWays es fs ns → i < length fs → f ≡ get_or fs i f → node_from es (way_of f.path) 0 ≡ Some (get_or ns i 0)
-way_here es fs ns i f h low is =
-    let long = ways_long es fs ns h in
-    way_at es fs ns i f (get_or ns i 0) h (slice_get-get_or fs i f low ∙ ap Some (sym is)) (slice_get-get_or ns i 0 (omega (arith, long, low)))
 
 -- one step more on the way
 pub way_on : (old new more : List Edge) (ks : List ℕ) (k node to : ℕ) → new ≡ old ++ more → IsDistinct same_edge new → node_from old ks 0 ≡ Some node → child new node k ≡ Some to
@@ -383,3 +353,9 @@ take_long (x ∷ xs) (suc i) h = ap suc (take_long xs i (omega arith))
 
 pub next_item : (fs : List Fact) (i : ℕ) (f : Fact) → i < length fs → f ≡ get_or fs i f → take (i + 1) fs ≡ take i fs ++ f ∷ []
 next_item fs i f l h = let m : i + 1 ≡ suc i = omega arith in ap (λ n. take n fs) m ∙ take-suc fs i f l ∙ ap (λ x. take i fs ++ x ∷ []) (sym h)
+
+-- the room for the facts that are left
+pub room_next : (fs : List Fact) (i : ℕ) (f : Fact) → i < length fs → f ≡ get_or fs i f → room_for (drop i fs) ≡ suc (length f.path.at) + room_for (drop (i + 1) fs)
+room_next fs i f l h =
+    let m : i + 1 ≡ suc i = omega arith in
+    ap room_for (drop-cons fs i f l ∙ ap₂ (λ x k. x ∷ drop k fs) (sym h) (sym m))

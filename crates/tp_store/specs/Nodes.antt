@@ -228,8 +228,7 @@ abbrev pub ArePlaced : (count : ℕ) → List Fact → Type 0
 ArePlaced n [] = Unit {0}
 ArePlaced n (f ∷ fs) = (f.path.var.number < n) × ArePlaced n fs
 
--- each fact's path leads to the node with the number beside it
-abbrev pub AreWays : List Edge → List Fact → List ℕ → Type 0
-AreWays es [] ns = Unit {0}
-AreWays es (f ∷ fs) [] = ⊥
-AreWays es (f ∷ fs) (n ∷ ns) = (node_from es (way_of f.path) 0 ≡ Some n) × AreWays es fs ns
+-- how many nodes the paths of facts take at most
+abbrev pub room_for : List Fact → ℕ
+room_for [] = 0
+room_for (f ∷ fs) = suc (length f.path.at) + room_for fs

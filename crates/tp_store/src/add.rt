@@ -94,7 +94,7 @@ pub fn value_facts(alloc: Global, path: &Path, value: &Value) -> Result<Vec<Fact
 fn one_fact(alloc: Global, path: Path, shape: Shape) -> Result<Vec<Fact>, NoMemory>
     ensures { IfOk result (λ facts. facts.items ≡ fact path shape ∷ []) }
 {
-    let mut facts = Vec::new(alloc);
+    let mut facts = Vec::with_capacity(alloc, 1)?;
     facts.push(Fact { path, shape })?;
     Ok(facts)
 }

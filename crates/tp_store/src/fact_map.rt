@@ -41,7 +41,7 @@ pub struct Remembered {
 pub struct FactMap {
     // Whether the variables are static.
     lasting: bool,
-    // The shape of each kept path. Where memory ran out, there may be nodes that lead to no fact.
+    // The shape of each kept path.
     nodes: Nodes,
     // The greatest number of indices of a kept path.
     depth: u64,
@@ -341,7 +341,7 @@ impl FactMap {
         fact.path.var.lasting == self.lasting && self.judge(&fact.path, fact.shape) == Noted::New
     }
 
-    /// Whether a path of the variable with that number is kept, or was to be where memory ran out.
+    /// Whether there is a node for the variable with that number, as there is where a path of it is kept.
     pub fn leads_to(&self, number: u64) -> bool
         ensures { result ≡ false → AreOfOthers number self.now.facts }
     {
@@ -382,7 +382,6 @@ impl FactMap {
     /// kept beside them, where it is that of the whole variable.
     pub fn add(
         &mut self,
-        alloc: Global,
         var: VarId,
         news: &[Fact],
         value: Option<Rc<Value>>,
@@ -399,7 +398,7 @@ impl FactMap {
         ensures ok { OnOk result (HaveSameShapes self.new.facts (self.old.facts ++ news.now)) }
         ensures err { OnErr result (self.new.facts ≡ self.old.facts) }
     {
-        keep_facts(&mut self.nodes, alloc, news)?;
+        keep_facts(&mut self.nodes, news)?;
         self.depth = self.depth.max(depth_of(news));
         let _count = self.nodes.count();
         let from = plain_of(&self.lists, var.number);

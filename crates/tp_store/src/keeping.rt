@@ -1,26 +1,11 @@
-// Facts that come to a tree: nodes are made for their paths, and then shapes are written there.
-ghost use Rattle.std.specs.Prelude.{◌≡◌, ◌<◌, ◌≤◌, ◌+◌, ◌∷◌, [], suc, length, Some, OnOk, OnErr};
+// Facts that come to a tree: room is made for the nodes of their paths, and then shapes are written there.
+ghost use Rattle.std.specs.Prelude.{◌≡◌, ◌<◌, ◌≤◌, ◌+◌, ◌∷◌, [], suc, length, Some, Bool, IfOk, OnOk, OnErr};
 ghost use Rattle.indexmap.specs.IndexMap.{spare};
 ghost use Rattle.tp_store.specs.Facts.{fact};
-ghost use Rattle.tp_store.specs.Nodes.{edges_in, node_from, way_of, IsTree, HasMoreNodes, AreWays, ArePlaced, KeepsAll};
+ghost use Rattle.tp_store.specs.Nodes.{edges_in, node_from, way_of, facts_in_tree, room_for, IsTree, ArePlaced, KeepsAll};
 
 use crate::nodes::Nodes;
-use std::alloc::Global;
 use tp_value::{Fact, NoMemory, Path, Shape};
-
-// Keeps the shapes of these facts at the nodes to which their paths lead.
-fn keep_all(nodes: &mut Nodes, ways: &[u64], facts: &[Fact])
-    requires tree { IsTree nodes.old }
-    requires ways { AreWays (edges_in nodes.old) facts.now ways.now }
-    ensures tree { IsTree nodes.new }
-    ensures places { length nodes.new.places.items ≡ length nodes.old.places.items }
-    ensures kept { KeepsAll nodes.old facts.now nodes.new }
-{
-    let _count = nodes.count();
-    for i in 0..facts.len() {
-        nodes.keep(ways[i], facts[i].shape);
-    }
-}
 
 // Keeps a shape at the node to which the path leads.
 fn keep_at(nodes: &mut Nodes, way: u64, path: &Path, shape: Shape)
@@ -51,21 +36,45 @@ pub fn keep_shape(nodes: &mut Nodes, path: &Path, shape: Shape)
     keep_at(nodes, way, path, shape);
 }
 
-/// Keeps these facts, or none where memory ends: first all nodes are made, then shapes are written, which can't fail.
-pub fn keep_facts(nodes: &mut Nodes, alloc: Global, facts: &[Fact]) -> Result<(), NoMemory>
+// How many nodes the paths of these facts take at most.
+fn room_for(facts: &[Fact]) -> Result<usize, NoMemory>
+    ensures { IfOk result (λ room. room ≡ room_for facts.now) }
+{
+    let mut room = 0usize;
+    for fact in facts {
+        let Some(more) = room.checked_add(fact.path.at.items.len() + 1) else {
+            return Err(NoMemory);
+        };
+        room = more;
+    }
+    Ok(room)
+}
+
+// Keeps the shapes of these facts, where there is room for them.
+fn keep_all(nodes: &mut Nodes, facts: &[Fact])
+    requires tree { IsTree nodes.old }
+    requires placed { ArePlaced (length nodes.old.places.items) facts.now }
+    requires room { room_for facts.now ≤ spare nodes.old.below }
+    ensures tree { IsTree nodes.new }
+    ensures places { length nodes.new.places.items ≡ length nodes.old.places.items }
+    ensures kept { KeepsAll nodes.old facts.now nodes.new }
+{
+    for fact in facts {
+        keep_shape(nodes, &fact.path, fact.shape);
+    }
+}
+
+/// Keeps these facts, or none where memory ends: first room is made for all, then they are kept, which takes no memory.
+pub fn keep_facts(nodes: &mut Nodes, facts: &[Fact]) -> Result<(), NoMemory>
     requires tree { IsTree nodes.old }
     requires placed { ArePlaced (length nodes.old.places.items) facts.now }
     ensures tree { IsTree nodes.new }
     ensures places { length nodes.new.places.items ≡ length nodes.old.places.items }
     ensures ok { OnOk result (KeepsAll nodes.old facts.now nodes.new) }
-    ensures err { OnErr result (HasMoreNodes nodes.old nodes.new) }
+    ensures err { OnErr result ((b : Bool) → facts_in_tree b nodes.new ≡ facts_in_tree b nodes.old) }
 {
-    if let [fact] = facts {
-        let way = nodes.make_way(&fact.path)?;
-        keep_at(nodes, way, &fact.path, fact.shape);
-        return Ok(());
-    }
-    let ways = nodes.make_ways(alloc, facts)?;
-    keep_all(nodes, ways.as_slice(), facts);
+    let room = room_for(facts)?;
+    nodes.reserve(room)?;
+    keep_all(nodes, facts);
     Ok(())
 }

@@ -5,14 +5,14 @@ ghost use Rattle.std.specs.Cmp.Rules.{hashing};
 ghost use Rattle.std.specs.List.{IsDistinct};
 ghost use Rattle.indexmap.specs.IndexMap.{spare};
 ghost use Rattle.std.proofs.Common.{rules};
-ghost use Rattle.tp_store.specs.Nodes.{edge_number, bare_node, edges_in, nodes_in, child, same_edge, node_from, routes, path_of, way_of, shape_among, shape_found, beyond_among, item_shape, lacks_way, lacks_path, with_node, with_shape_at, facts_in_tree, route_to, index_behind, IsTree, HasMoreNodes, IsRaised, AreWays, ArePlaced, KeepsAll};
+ghost use Rattle.tp_store.specs.Nodes.{edge_number, bare_node, edges_in, nodes_in, child, same_edge, node_from, routes, path_of, way_of, shape_among, shape_found, beyond_among, item_shape, lacks_way, lacks_path, with_node, with_shape_at, facts_in_tree, route_to, index_behind, IsTree, HasMoreNodes, IsRaised};
 ghost use Rattle.tp_store.specs.Facts.{fact};
 
 use crate::clash::lacks_item;
 use indexmap::IndexMap;
 use std::alloc::Global;
 use std::hash::{Hash, Hasher};
-use tp_value::{Fact, Indices, NoMemory, Path, Shape, VarId};
+use tp_value::{Indices, NoMemory, Path, Shape, VarId};
 
 /// From a node to its child with this index: that of an item, or a variable's number.
 #[derive(Clone, Copy, Debug, PartialEq, Eq)]
@@ -344,22 +344,6 @@ impl Nodes {
             node = self.lead(node, u64::from(*index))?;
         }
         Ok(node)
-    }
-
-    /// Leads to the nodes of these facts.
-    pub fn make_ways(&mut self, alloc: Global, facts: &[Fact]) -> Result<Vec<u64>, NoMemory>
-        requires tree { IsTree self.old }
-        requires placed { ArePlaced (length self.old.places.items) facts.now }
-        ensures tree { IsTree self.new }
-        ensures more { HasMoreNodes self.old self.new }
-        ensures ways { IfOk result (λ ns. AreWays (edges_in self.new) facts.now ns.items) }
-    {
-        let mut ways = Vec::new(alloc);
-        for fact in facts {
-            let way = self.make_way(&fact.path)?;
-            ways.push(way)?;
-        }
-        Ok(ways)
     }
 
     /// Keeps the shape at the node with that number, which isn't the root.

@@ -227,7 +227,7 @@ impl Portion {
             // of a whole value nothing is new
             return Ok(Facts { items: news });
         }
-        self.parts.add(alloc, var, news.as_slice(), value)?;
+        self.parts.add(var, news.as_slice(), value)?;
         Ok(Facts { items: news })
     }
 

@@ -26,7 +26,7 @@ invariant_of-self c =
     let i = c.self.invariant in
     let b = c.self.inside.lasting in
     let more = c.in_err-keep_facts.ensures.err in
-    let same = sym (more.facts b) in
+    let same = sym (more b) in
     let N : List Fact → Type 0 = λ fs. NoClash fs in
     let R : List Fact → Type 0 = λ fs. AreRemembered (get nat_eq c.self.inside.lists) b fs in
     (subst N same i.0, c.in_err-keep_facts.ensures.tree, i.2 ∙ ap deepest same, i.3, subst R same i.4)
