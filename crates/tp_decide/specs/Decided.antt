@@ -2,7 +2,7 @@
 use Rattle.std.specs.Prelude.{◌≡◌, ℕ, suc, List, [], ◌∷◌, ◌++◌, length, Some, None, Result, IfOk}
 use Rattle.std.specs.Option.{option_map}
 use Rattle.tp_meaning.specs.Syntax.{FormulaTree, place_binding}
-use Rattle.tp_value.specs.Read.{tree}
+use Rattle.tp_store.specs.Operand.{operand_tree}
 use Rattle.tp_value.specs.declared.path.Fact.{Fact}
 use Rattle.tp_value.specs.declared.refusal.NoMemory.{NoMemory}
 use Rattle.tp_value.specs.declared.value.Shape.TheVariants.{Items}
@@ -121,7 +121,8 @@ decided_outcome facts n (decision.Binds name lasting body) =
       mark = None;
       facts = [];
     })
-decided_outcome facts n (decision.Sets p v) = row.added (addition facts (facts_at p (tree v)))
+decided_outcome facts n (decision.Sets p v) =
+    row.added (addition facts (facts_at p (operand_tree v)))
 decided_outcome facts n (decision.Measures p k) = row.added (addition facts (fact p (Items k) ∷ []))
 decided_outcome facts n (decision.Shares to k news) =
     adding_items (news_entries news.items n.item 0) (length news.items)

@@ -44,3 +44,9 @@ pub record AreOneValue (o p : found.Outcome) : Type 0 where
 pub record AreEqual (left right : row.SideOf) : Type 0 where
   pub values : AreOneValue left.found right.found
   pub no_length : sets_length left.target ≡ false
+
+-- The side can be set at this path, and waits.
+pub record Awaits (side : row.SideOf) (p : Path) : Type 0 where
+  pub target : side.target ≡ Some (row.value_at p)
+  pub cell : Path
+  pub found : side.found ≡ found.wait cell

@@ -13,7 +13,8 @@ use crate::phrase::{Phrase, Values};
 use std::rc::Rc;
 use tp_kernel::{Env, Formula, LimitKind};
 use tp_scene::{Cell, Clash};
-use tp_value::{NoMemory, Path, Text, Value};
+use tp_store::Operand;
+use tp_value::{NoMemory, Path, Text};
 
 /// A mark on a region.
 #[derive(Clone, Copy, Debug)]
@@ -66,7 +67,7 @@ pub enum Decision {
         lasting: bool,
         body: Phrase,
     },
-    Sets(Path, Value),
+    Sets(Path, Operand),
     Measures(Path, u32),
     Shares {
         to: Path,

@@ -1,5 +1,7 @@
 // What becomes of an equation.
-ghost use Rattle.std.specs.Prelude.{◌≡◌, IfOk, IsTrue, Bool, List, None};
+ghost use Rattle.std.specs.Prelude.{◌≡◌, IfOk, IsTrue, Bool, List, None, MatchOption, true};
+ghost use Rattle.tp_value.specs.Limits.{is_within_list_limit};
+ghost use Rattle.tp_meaning.specs.Syntax.{known, Definition, BindingTree};
 ghost use Rattle.tp_value.specs.Read.{tree};
 ghost use Rattle.tp_value.specs.Tree.{num};
 ghost use Rattle.tp_kernel.specs.Read.{expr_tree, definitions_of, bindings_of};
@@ -12,7 +14,7 @@ ghost use Rattle.tp_scene.specs.Step as row;
 ghost use Rattle.tp_store.specs.Known.{Variable, IsVariableOf};
 ghost use Rattle.tp_decide.specs.Decided.{IfOkDecidesIn, decided_outcome};
 ghost use Rattle.tp_decide.specs.Found.{option_target, side_found};
-ghost use Rattle.tp_decide.specs.Equated.{sets_length, AreOneValue, AreEqual, AreValuePaths};
+ghost use Rattle.tp_decide.specs.Equated.{sets_length, AreOneValue, AreEqual, AreValuePaths, Awaits};
 ghost use Rattle.tp_decide.specs.Fits.{ArePathsOfVariables, IsTargetOf, SetsVariables, ExprFitsStore};
 
 use crate::decision::{Decision, nothing};
@@ -20,11 +22,15 @@ use crate::setting::Setting;
 use crate::sharing::equate_places;
 use crate::sides::{Side, Target, path_of, side_of, side_with};
 use std::alloc::Global;
+use std::rc::Rc;
 use tp_eval::{Outcome, is_place};
 use tp_kernel::{Env, Expr, FaultKind, LimitKind};
 use tp_scene::{Cell, Clash};
-use tp_store::Store;
-use tp_value::{LENGTH_LIMIT, NoMemory, Number, Path, Text, Value, same, same_tree_is_equality};
+use tp_store::{Operand, Store};
+use tp_value::{
+    LENGTH_LIMIT, NoMemory, Number, Path, Text, Value, is_within_list_limit, same,
+    same_tree_is_equality,
+};
 
 // The length of the list at the path is to be this value.
 fn measure(path: Path, value: Value) -> Decision
@@ -63,7 +69,7 @@ fn meet(target: Option<Target>, found: Outcome, value: Value) -> Decision
     ensures variables { (xs : List Variable) → IsTargetOf xs target → SetsVariables xs result }
 {
     match target {
-        Some(Target::Value(path)) => Decision::Sets(path, value),
+        Some(Target::Value(path)) => Decision::Sets(path, Operand::Own(value)),
         Some(Target::Length(path)) => measure(path, value),
         None => compare(found, value),
     }
@@ -255,6 +261,58 @@ fn both_paths(
     Ok(Some((left, right)))
 }
 
+// The value that the expression is, where it may be read.
+fn readable_value(expr: &Expr) -> Option<&Rc<Value>>
+    ensures { MatchOption result (Unit {0}) (λ v.
+        (expr_tree expr.now ≡ known (tree v.now.value))
+        × (is_within_list_limit (tree v.now.value) ≡ true)) }
+{
+    let Expr::Known(value) = expr else {
+        return None;
+    };
+    if is_within_list_limit(value) {
+        Some(value)
+    } else {
+        None
+    }
+}
+
+// The path of the side, where it can be set and waits.
+fn waiting_path(side: &Side) -> Option<&Path>
+    ensures outcome { MatchOption result (Unit {0}) (λ p. Awaits (side_found side.now) p.now) }
+    ensures variables { (xs : List Variable) → IsTargetOf xs side.now.target
+        → MatchOption result (Unit {0}) (λ p. IsVariableOf xs p.now.var) }
+{
+    let Outcome::Wait(_) = side.found else {
+        return None;
+    };
+    let Some(Target::Value(path)) = &side.target else {
+        return None;
+    };
+    Some(path)
+}
+
+// A value that is known as a whole is handed on to a place that waits for it, and not copied.
+fn hand_on(left: &Side, right: &Expr) -> Result<Option<Decision>, NoMemory>
+    ensures outcome { IfOk result (λ given. MatchOption given (Unit {0}) (λ d.
+        (facts : List Fact) (n : row.Numbers) (defs : List Definition) (env : List BindingTree)
+        → decided_outcome facts n d
+        ≡ row.equate_values facts (side_found left.now)
+        (row.side_of defs facts (expr_tree right.now) env))) }
+    ensures variables { IfOk result (λ given. MatchOption given (Unit {0}) (λ d.
+        (xs : List Variable) → IsTargetOf xs left.now.target → SetsVariables xs d)) }
+{
+    let Some(path) = waiting_path(left) else {
+        return Ok(None);
+    };
+    let Some(value) = readable_value(right) else {
+        return Ok(None);
+    };
+    let path = path.copy()?;
+    let value = value.clone()?;
+    Ok(Some(Decision::Sets(path, Operand::Shared(value))))
+}
+
 /// What becomes of the equation of the two. That of two places goes by their shapes; where one of them isn't found, both sides are evaluated
 /// anew, as other expressions are.
 pub fn decide_equation(
@@ -281,6 +339,9 @@ pub fn decide_equation(
         return Ok(decision);
     }
     let left = side_of(alloc, left, env, store, setting.defs)?;
+    if let Some(decision) = hand_on(&left, right)? {
+        return Ok(decision);
+    }
     let right = side_of(alloc, right, env, store, setting.defs)?;
     if are_equal(&left, &right) {
         same_tree_is_equality();

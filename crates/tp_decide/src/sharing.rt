@@ -14,7 +14,7 @@ use std::alloc::Global;
 use std::rc::Rc;
 use tp_kernel::{Binding, Env, Expr, FaultKind, Formula};
 use tp_scene::{Cell, Clash};
-use tp_store::Store;
+use tp_store::{Operand, Store};
 use tp_value::{NoMemory, Number, Path, Shape, Value};
 
 // The item with that index of one place equals that of the other.
@@ -93,8 +93,14 @@ fn share(
         → SetsVariables xs d) }
 {
     match shape {
-        Shape::Num(n) => Ok(Decision::Sets(either(left, right, to_left), Value::Num(n))),
-        Shape::Truth(b) => Ok(Decision::Sets(either(left, right, to_left), Value::Truth(b))),
+        Shape::Num(n) => {
+            let value = Operand::Own(Value::Num(n));
+            Ok(Decision::Sets(either(left, right, to_left), value))
+        }
+        Shape::Truth(b) => {
+            let value = Operand::Own(Value::Truth(b));
+            Ok(Decision::Sets(either(left, right, to_left), value))
+        }
         Shape::Items(length) => {
             let to = if to_left { left.copy()? } else { right.copy()? };
             let env = both_places(alloc, left, right)?;

@@ -1,20 +1,13 @@
--- The values of operands, and those that bound names have.
+-- The values and places that names have.
 use Rattle.std.specs.Prelude.{◌≡◌, List, [], Option, Some, None, slice_get}
 use Rattle.std.specs.Option.{option_and_then}
 use Rattle.tp_value.specs.Tree.{Tree}
-use Rattle.tp_value.specs.Read.{tree}
 use Rattle.tp_meaning.specs.Syntax.{ExprTree, bound, global, BindingTree, place_binding, known_binding}
 use Rattle.tp_value.specs.declared.path.Path.{Path}
 use Rattle.tp_value.specs.declared.path.Fact.{Fact}
 use Rattle.tp_store.specs.Known.{full, value}
-use Rattle.tp_eval.specs.declared.operand.Operand.{Operand}
-use Rattle.tp_eval.specs.declared.operand.Operand.TheVariants.{Shared, Own}
 use Rattle.tp_eval.specs.declared.operand.Name.{Name}
 use Rattle.tp_eval.specs.declared.operand.Name.TheVariants.{Bound, Whole}
-
-abbrev pub operand_tree : Operand → Tree
-operand_tree (Shared v) = tree v.value
-operand_tree (Own v) = tree v
 
 -- the value that a binding is, where it is a known one
 abbrev pub known_value : BindingTree → Option Tree

@@ -7,19 +7,20 @@ ghost use Rattle.tp_eval.specs.Reached.{with_reached, within_numbers, within_lis
 ghost use Rattle.tp_eval.specs.Evaluate.{is_place, each, all_true, one_true, operation_outcome, chosen, element_of, size_of, index_in, negative_in, negated_in, read_at, argument, arguments};
 ghost use Rattle.tp_eval.specs.Answers.{AnswersEvaluation, AnswersReached, as_it_is, operand_in, place_at, call_in};
 ghost use Rattle.tp_eval.specs.Places.{place_in};
-ghost use Rattle.tp_eval.specs.Operand.{operand_tree};
+ghost use Rattle.tp_store.specs.Operand.{operand_tree};
 
 use crate::count::count_call;
 use crate::halt::Halt;
 use crate::kinds::{limited, number_of, truth_of, within};
 use crate::lookup::Lookup;
-use crate::operand::{Operand, bind_value, bound_value, kept_value};
+use crate::operand::{bind_value, bound_value, kept_value};
 use crate::operate::{item_of, operate};
 use crate::places::{
     Place, bind_place, farther, index_from, index_of, length_of, named, size_at, value_at, whole,
 };
 use std::alloc::Global;
 use tp_kernel::{Binding, Def, Env, Expr, Exprs, FaultKind, LimitKind, Op2, is_upper};
+use tp_store::Operand;
 use tp_value::{Items, Number, Texts, Value, is_number, negated};
 
 /// Whether the expression is a name followed by indices.

@@ -1,4 +1,4 @@
-// Values of operands, which are shared where a bound name has them.
+// Values that names have.
 ghost use Rattle.std.specs.Prelude.{◌≡◌, Some, IfOk, slice_get};
 ghost use Rattle.std.specs.Option.{option_copied, option_map, option_and_then};
 ghost use Rattle.tp_value.specs.Read.{tree};
@@ -7,21 +7,14 @@ ghost use Rattle.tp_kernel.specs.Read.{expr_tree, binding_of, bindings_of};
 ghost use Rattle.std.specs.declared.rc.Rc.{Rc};
 ghost use Rattle.std.specs.declared.alloc.Global.{Global};
 ghost use Rattle.tp_value.specs.declared.value.Value.{Value as ValueSeen};
-ghost use Rattle.tp_eval.specs.Operand.{operand_tree, known_value, bound_value, bound_path, path_named, named_path, IsNamedValue};
+ghost use Rattle.tp_store.specs.Operand.{operand_tree};
+ghost use Rattle.tp_eval.specs.Operand.{known_value, bound_value, bound_path, path_named, named_path, IsNamedValue};
 
 use std::alloc::Global;
 use std::rc::Rc;
 use tp_kernel::{Binding, Env, Expr};
-use tp_store::Store;
+use tp_store::{Operand, Store, held};
 use tp_value::{Indices, NoMemory, Path, Value, VarId};
-
-/// The value of an operand that is looked at or handed on: a bound name's, which keeps it, or its
-/// own.
-#[derive(Drop)]
-pub enum Operand {
-    Shared(Rc<Value>),
-    Own(Value),
-}
 
 fn known_value(binding: &Binding) -> Option<&Rc<Value>>
     ensures { option_map (λ v. tree v.now.value) result ≡ known_value (binding_of binding.now) }
@@ -106,32 +99,10 @@ pub fn kept_value<'a>(
     }
 }
 
-/// The value itself, to be looked at.
-pub fn seen(operand: &Operand) -> &Value
-    ensures { tree result.now ≡ operand_tree operand.now }
-{
-    match operand {
-        Operand::Shared(value) => value,
-        Operand::Own(value) => value,
-    }
-}
-
-/// An equal value, which is copied where it is shared.
-pub fn owned(alloc: Global, operand: Operand) -> Result<Value, NoMemory>
-    ensures { IfOk result (λ v. tree v ≡ operand_tree operand) }
-{
-    match operand {
-        Operand::Shared(value) => value.copy(alloc),
-        Operand::Own(value) => Ok(value),
-    }
-}
-
 /// What a parameter is bound to that is given this value.
 pub fn bind_value(alloc: Global, operand: Operand) -> Result<Binding, NoMemory>
     ensures { IfOk result (λ b. binding_of b ≡ known_binding (operand_tree operand)) }
 {
-    match operand {
-        Operand::Shared(value) => Ok(Binding::Known(value)),
-        Operand::Own(value) => Ok(Binding::Known(Rc::new(alloc, value)?)),
-    }
+    let value = held(alloc, operand)?;
+    Ok(Binding::Known(value))
 }

@@ -7,13 +7,13 @@ ghost use Rattle.tp_kernel.specs.Read.{operator_of};
 ghost use Rattle.tp_eval.specs.Reached.{within_lists};
 ghost use Rattle.tp_eval.specs.Evaluate.{operate_outcome, sum_in, on_divisor_outcome, item_between};
 ghost use Rattle.tp_eval.specs.Answers.{AnswersEvaluation};
-ghost use Rattle.tp_eval.specs.Operand.{operand_tree};
+ghost use Rattle.tp_store.specs.Operand.{operand_tree};
 
 use crate::halt::Halt;
 use crate::kinds::{items_of, limited, number_of, within};
-use crate::operand::{Operand, owned, seen};
 use std::alloc::Global;
 use tp_kernel::{FaultKind, Op2};
+use tp_store::{Operand, owned, seen};
 use tp_value::{Items, Number, Value, difference, product, quotient, remainder, same, sum};
 
 // The first list with the second after it.

@@ -26,8 +26,8 @@ use tp_slots::{
     Scene, become_bound, become_leaves, become_opened, become_sharing, become_split, move_on,
     vanish,
 };
-use tp_store::{AddRefusal, Learned, Store};
-use tp_value::{Facts, NoMemory, Path, Text, Value};
+use tp_store::{AddRefusal, Learned, Operand, Store, seen};
+use tp_value::{Facts, NoMemory, Path, Text};
 
 // These items became live, no fact is new, and perhaps a region was marked.
 fn reduced(alloc: Global, items: SmallVec<u64, 3>, marked: Option<u64>) -> Tried
@@ -206,7 +206,7 @@ fn set(
     alloc: Global,
     scene: &mut Scene,
     item: u64,
-    target: (Path, Value),
+    target: (Path, Operand),
     store: &mut Store,
     room: u64,
 ) -> Result<Tried, NoMemory>
@@ -226,7 +226,7 @@ fn set(
 {
     let (path, value) = target;
     if room == 0 {
-        return full_or_refused(store.check(&path, &value));
+        return full_or_refused(store.check(&path, seen(&value)));
     }
     match store.set(path, value) {
         Ok(facts) => Ok(learn(alloc, scene, item, facts)),

@@ -10,3 +10,4 @@ pub mod Laws
 pub mod KeptValue
 pub mod Wholes
 pub mod Learned
+pub mod Operand

@@ -8,9 +8,11 @@ ghost use Rattle.tp_store.specs.Stock.{contents_in};
 ghost use Rattle.tp_store.specs.Answers.{IsRefusal};
 ghost use Rattle.tp_store.specs.Changes.{IsSoundStore, AddsFacts};
 ghost use Rattle.tp_store.specs.Wholes.{facts_of_value, AreOfOthers};
+ghost use Rattle.tp_store.specs.Operand.{operand_tree};
 
 use crate::add::AddRefusal;
 use crate::learned::Learned;
+use crate::operand::{Operand, held, owned, seen};
 use crate::store::Store;
 use std::rc::Rc;
 use tp_value::{NoMemory, Path, Value, VarId, is_within_list_limit};
@@ -26,14 +28,14 @@ fn is_readable_list(value: &Value) -> bool
 }
 
 impl Store {
-    /// The same as `add`, of a path and a value that are handed in: they are kept, and not copied. Of a list that is set to a variable of
-    /// which nothing is known no fact is written down: it stands there as a whole.
-    pub fn set(&mut self, path: Path, value: Value) -> Result<Learned, AddRefusal>
+    /// The same as `add`, of a path and a value that are handed in. Of a list that is set to a variable of which nothing is known no fact is
+    /// written down: it stands there as a whole, for all that hold it.
+    pub fn set(&mut self, path: Path, value: Operand) -> Result<Learned, AddRefusal>
         requires { IsVariableOf self.old.variables path.var }
         ensures news { IfOk result (λ news.
-            addition self.old.facts (facts_at path (tree value)) ≡ adds news) }
+            addition self.old.facts (facts_at path (operand_tree value)) ≡ adds news) }
         ensures refused { IfErr result
-            (IsRefusal (addition self.old.facts (facts_at path (tree value)))) }
+            (IsRefusal (addition self.old.facts (facts_at path (operand_tree value)))) }
         ensures added { IfOk result (λ news.
             AddsFacts (contents_in self.old) news (contents_in self.new)) }
         ensures err { OnErr result (contents_in self.new ≡ contents_in self.old) }
@@ -41,11 +43,13 @@ impl Store {
     {
         if path.at.items.as_slice().is_empty()
             && self.is_free(path.var)
-            && is_readable_list(&value)
+            && is_readable_list(seen(&value))
         {
+            let value = held(self.alloc, value)?;
             let learned = self.give(path.var, value)?;
             return Ok(learned);
         }
+        let value = owned(self.alloc, value)?;
         let facts = self.add_value(path, value)?;
         Ok(Learned::listed(facts))
     }
@@ -58,18 +62,18 @@ impl Store {
     }
 
     // Gives this value to a variable of which nothing is known.
-    fn give(&mut self, var: VarId, value: Value) -> Result<Learned, NoMemory>
+    fn give(&mut self, var: VarId, value: Rc<Value>) -> Result<Learned, NoMemory>
         requires variable { IsVariableOf self.old.variables var }
         requires free { AreOfOthers var.number self.old.facts }
-        requires limit { is_within_list_limit (tree value) ≡ true }
+        requires limit { is_within_list_limit (tree value.value) ≡ true }
         ensures news { IfOk result (λ news.
-            addition self.old.facts (facts_of_value var (tree value)) ≡ adds news) }
+            addition self.old.facts (facts_of_value var (tree value.value)) ≡ adds news) }
         ensures added { IfOk result (λ news.
             AddsFacts (contents_in self.old) news (contents_in self.new)) }
         ensures err { OnErr result (contents_in self.new ≡ contents_in self.old) }
         ensures sound { IsSoundStore (contents_in self.new) }
     {
-        let value = Rc::new(self.alloc, value)?;
+        let _ = &self.alloc;
         let kept = value.clone()?;
         if var.lasting {
             self.fixed.give(var, kept)?;

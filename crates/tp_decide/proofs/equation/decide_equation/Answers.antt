@@ -1,4 +1,8 @@
-use Rattle.std.proofs.Common.{◌∙◌, subst}
+use Rattle.std.proofs.Common.{◌∙◌, List, Option, subst}
+use Rattle.std.specs.Prelude.{MatchOption}
+use Rattle.tp_store.specs.Known.{Variable}
+use Rattle.tp_decide.specs.declared.decision.Decision.{Decision}
+use Rattle.tp_decide.specs.Fits.{IsTargetOf, SetsVariables}
 use Rattle.tp_kernel.specs.Read.{expr_tree, definitions_of, bindings_of}
 use Rattle.tp_scene.specs.Step.{SideOf, side_of, target_of}
 use Rattle.tp_decide.specs.Found.{side_found}
@@ -27,3 +31,8 @@ returns-then-are_equal-clause-variables c = c.nothing.ensures.plain c.args.store
 
 pub returns-clause-variables : goal.returns-clause-variables
 returns-clause-variables c = c.equate_values.ensures.variables c.args.store.now.variables c.in_ok-left-2.ensures.variables c.in_ok-right.ensures.variables
+
+pub returns-in-Some-2-clause-variables : goal.returns-in-Some-2-clause-variables
+returns-in-Some-2-clause-variables c =
+    let V : Option Decision → Type 0 = λ o. MatchOption o (Unit {0}) (λ (d : Decision). (xs : List Variable) → IsTargetOf xs c.in_ok-left-2.left.target → SetsVariables xs d) in
+    subst V c.in-Some-2.is c.in_ok-decision-2.ensures.variables c.args.store.now.variables c.in_ok-left-2.ensures.variables

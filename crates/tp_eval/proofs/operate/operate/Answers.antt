@@ -10,7 +10,7 @@ use Rattle.tp_kernel.specs.declared.formula.Op2.{Op2}
 use Rattle.tp_kernel.specs.declared.formula.Op2.TheVariants as op
 use Rattle.tp_eval.specs.Reached.{◌>>=◌, gives}
 use Rattle.tp_eval.specs.Evaluate.{operate_outcome, number_in}
-use Rattle.tp_eval.specs.Operand.{operand_tree}
+use Rattle.tp_store.specs.Operand.{operand_tree}
 use Rattle.tp_eval.specs.Answers.{Halts}
 use Rattle.tp_eval.proofs.Steps.{answers_same, then_gives, halts_then, halts_same, numeric}
 use Rattle.tp_eval.proofs.operate.operate.Goals as goal
