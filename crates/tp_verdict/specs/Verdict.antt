@@ -5,9 +5,7 @@ use Rattle.tp_eval.specs.Outcome.{Outcome, value, wait, fault, over}
 
 -- Something holds, or it doesn't, or what is known decides neither.
 pub data Verdict : Type 0 where
-  yes : Verdict
-  no : Verdict
-  undecided : Verdict
+  yes no undecided : Verdict
 
 abbrev pub of_truth : Bool → Verdict
 of_truth true = yes

@@ -10,25 +10,15 @@ use Rattle.tp_meaning.specs.Holds.{Joined, Chopped, OnEachSuffix, Pieces}
 
 mutual
   pub data WideTree : Type 0 where
-    trivial : WideTree
-    test : ExprTree → WideTree
-    equation : ExprTree → ExprTree → WideTree
+    trivial empty more : WideTree
+    test len : ExprTree → WideTree
+    equation assign : ExprTree → ExprTree → WideTree
     next_equation : (nexts : ℕ) → ExprTree → ExprTree → WideTree
-    empty : WideTree
-    more : WideTree
-    next : WideTree → WideTree
-    if_more : WideTree → WideTree
-    if_empty : WideTree → WideTree
-    always : WideTree → WideTree
+    next if_more if_empty always negation sometimes : WideTree → WideTree
     conjunction : WideTrees → WideTree
     branch : ExprTree → WideTree → WideTree → WideTree
-    len : ExprTree → WideTree
-    assign : ExprTree → ExprTree → WideTree
-    chop : WideTree → WideTree → WideTree
+    chop disjunction : WideTree → WideTree → WideTree
     while : ExprTree → WideTree → WideTree
-    disjunction : WideTree → WideTree → WideTree
-    negation : WideTree → WideTree
-    sometimes : WideTree → WideTree
 
   pub data WideTrees : Type 0 where
     no_formula : WideTrees
@@ -93,8 +83,7 @@ abbrev mutual
   -- Each formula holds, and their shows are joined in order.
   pub AllHoldWidely : WideTrees → Course → Part
   AllHoldWidely no_formula s a b S = S ≡ blank
-  AllHoldWidely (formula_then w ws) s a b S =
-      Joined (WideHolds w s) (AllHoldWidely ws s) a b S
+  AllHoldWidely (formula_then w ws) s a b S = Joined (WideHolds w s) (AllHoldWidely ws s) a b S
 
 abbrev mutual
   -- the expression is one of those that the formula is made of
