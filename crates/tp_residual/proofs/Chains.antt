@@ -1,5 +1,5 @@
 -- Names that are hidden by `exists` one in another.
-use Rattle.std.proofs.Common.{Bor, ◌≡◌, ℕ, Bool, List, [], ◌∷◌, ◌++◌, codes, sym, ap, ap₂, ◌∙◌, append_assoc}
+use Rattle.std.proofs.Common.{Bor, ◌≡◌, ℕ, Bool, List, [], ◌∷◌, ◌++◌, codes, sym, ap, ap₂, ◌∙◌, append_assoc, append-nil}
 use Rattle.std.specs.declared.rc.Rc.{Rc}
 use Rattle.std.specs.declared.alloc.Global.{Global}
 use Rattle.tp_meaning.specs.Syntax.{FormulaTree}
@@ -7,7 +7,8 @@ use Rattle.tp_kernel.specs.declared.formula.Formula.{Formula}
 use Rattle.tp_kernel.specs.declared.formula.Formula.TheVariants as formula
 use Rattle.tp_kernel.specs.Read.{formula_tree}
 use Rattle.tp_kernel.specs.Equations.{formula_exists}
-use Rattle.tp_residual.specs.Phrases.{formula_spelling, BoundName, Vocabulary, naming}
+use Rattle.tp_residual.specs.Phrases.{BoundName, Vocabulary, naming}
+use Rattle.tp_residual.specs.Parts.{formula_spelling}
 use Rattle.tp_residual.specs.Read.{bound_names, own_bound_names}
 use Rattle.tp_residual.specs.Chain.{naming_all, within_spelling}
 use Rattle.tp_residual.specs.declared.words.Bound.{Bound}
@@ -49,4 +50,5 @@ exists_written v f name lasting body d within start first before new one names i
     let first_too = ap₂ (λ a ns. a ++ within_spelling (naming_all v ns) (formula_tree d)) e o ∙ chain_first v name (formula_tree d) start in
     let of_body = ap (λ (g : Formula). start ++ exists_spelling v name (formula_tree g)) same in
     let of_whole = ap (λ w. start ++ formula_spelling v w) (sym (ap formula_tree is ∙ formula_exists name lasting body)) in
-    h ∙ (chain ∙ (first_too ∙ (of_body ∙ of_whole)))
+    let one_name = ap (λ x. start ++ (codes "exists " ++ x ++ codes " : " ++ within_spelling (naming v name) (formula_tree body.value))) (sym (append-nil name)) in
+    h ∙ (chain ∙ (first_too ∙ (of_body ∙ (one_name ∙ of_whole))))

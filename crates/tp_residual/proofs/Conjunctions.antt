@@ -10,7 +10,8 @@ use Rattle.tp_kernel.specs.declared.formula.Formula.{Formula}
 use Rattle.tp_kernel.specs.declared.formula.Formulas.{Formulas}
 use Rattle.tp_kernel.specs.Read.{expr_tree, expr_trees, formula_tree, formula_trees}
 use Rattle.tp_kernel.specs.Equations.{expr_trees_is, formula_trees_is}
-use Rattle.tp_residual.specs.Phrases.{Vocabulary, exprs_level, expr_spelling, exprs_spelling, all_exprs_spelling, formulas_level, formula_spelling, formulas_spelling, all_formulas_spelling}
+use Rattle.tp_residual.specs.Phrases.{Vocabulary}
+use Rattle.tp_residual.specs.Parts.{expr_level, exprs_level, expr_spelling, exprs_spelling, all_exprs_spelling, formula_level, formulas_level, formula_spelling, formulas_spelling, all_formulas_spelling}
 
 pub only_item : {A : Type 0} (xs : List A) (x : A) → 1 ≤ length xs → length xs < 2 → x ≡ get_or xs 0 x → xs ≡ x ∷ []
 only_item [] x a b e = absurd (omega arith)
@@ -34,15 +35,15 @@ listed_formulas v [] l = absurd (omega (arith, l))
 listed_formulas v (x ∷ []) l = absurd (omega (arith, l))
 listed_formulas v (x ∷ y ∷ xs) l = refl
 
-level_of_exprs : (xs : List Expr) → 2 ≤ length xs → 7 ≡ exprs_level (exprs_of (map expr_tree xs))
-level_of_exprs [] l = absurd (omega (arith, l))
-level_of_exprs (x ∷ []) l = absurd (omega (arith, l))
-level_of_exprs (x ∷ y ∷ xs) l = refl
+level_of_exprs : (v : Vocabulary) (xs : List Expr) → 2 ≤ length xs → 7 ≡ exprs_level v (exprs_of (map expr_tree xs))
+level_of_exprs v [] l = absurd (omega (arith, l))
+level_of_exprs v (x ∷ []) l = absurd (omega (arith, l))
+level_of_exprs v (x ∷ y ∷ xs) l = refl
 
-level_of_formulas : (xs : List (Rc Formula Global)) → 2 ≤ length xs → 7 ≡ formulas_level (formulas_of (map (λ w. formula_tree w.value) xs))
-level_of_formulas [] l = absurd (omega (arith, l))
-level_of_formulas (x ∷ []) l = absurd (omega (arith, l))
-level_of_formulas (x ∷ y ∷ xs) l = refl
+level_of_formulas : (v : Vocabulary) (xs : List (Rc Formula Global)) → 2 ≤ length xs → 7 ≡ formulas_level v (formulas_of (map (λ w. formula_tree w.value) xs))
+level_of_formulas v [] l = absurd (omega (arith, l))
+level_of_formulas v (x ∷ []) l = absurd (omega (arith, l))
+level_of_formulas v (x ∷ y ∷ xs) l = refl
 
 -- two or more are listed
 pub several_exprs : (v : Vocabulary) (es : Exprs) → 2 ≤ length es.items.items → exprs_spelling v [] (codes " and ") not_level (expr_trees es) ≡ all_exprs_spelling v (expr_trees es)
@@ -51,11 +52,17 @@ several_exprs v es l = ap (exprs_spelling v [] (codes " and ") not_level) (expr_
 pub several_formulas : (v : Vocabulary) (ws : Formulas) → 2 ≤ length ws.items.items → formulas_spelling v [] (formula_trees ws) ≡ all_formulas_spelling v (formula_trees ws)
 several_formulas v ws l = ap (formulas_spelling v []) (formula_trees_is ws) ∙ (listed_formulas v ws.items.items l ∙ ap (all_formulas_spelling v) (sym (formula_trees_is ws)))
 
-pub exprs_level_is : (es : Exprs) → 2 ≤ length es.items.items → 7 ≡ exprs_level (expr_trees es)
-exprs_level_is es l = level_of_exprs es.items.items l ∙ ap exprs_level (sym (expr_trees_is es))
+pub exprs_level_is : (v : Vocabulary) (es : Exprs) → 2 ≤ length es.items.items → 7 ≡ exprs_level v (expr_trees es)
+exprs_level_is v es l = level_of_exprs v es.items.items l ∙ ap (exprs_level v) (sym (expr_trees_is es))
 
-pub formulas_level_is : (ws : Formulas) → 2 ≤ length ws.items.items → 7 ≡ formulas_level (formula_trees ws)
-formulas_level_is ws l = level_of_formulas ws.items.items l ∙ ap formulas_level (sym (formula_trees_is ws))
+pub formulas_level_is : (v : Vocabulary) (ws : Formulas) → 2 ≤ length ws.items.items → 7 ≡ formulas_level v (formula_trees ws)
+formulas_level_is v ws l = level_of_formulas v ws.items.items l ∙ ap (formulas_level v) (sym (formula_trees_is ws))
+
+pub one_expr_level : (v : Vocabulary) (es : Exprs) (xs : List Expr) (x : Expr) → xs ≡ es.items.items → xs ≡ x ∷ [] → expr_level v (expr_tree x) ≡ exprs_level v (expr_trees es)
+one_expr_level v es xs x e f = sym (ap (exprs_level v) (expr_trees_is es) ∙ ap (λ xs. exprs_level v (exprs_of (map expr_tree xs))) (sym e ∙ f))
+
+pub one_formula_level : (v : Vocabulary) (ws : Formulas) (xs : List (Rc Formula Global)) (x : Rc Formula Global) → xs ≡ ws.items.items → xs ≡ x ∷ [] → formula_level v (formula_tree x.value) ≡ formulas_level v (formula_trees ws)
+one_formula_level v ws xs x e f = sym (ap (formulas_level v) (formula_trees_is ws) ∙ ap (λ (xs : List (Rc Formula Global)). formulas_level v (formulas_of (map (λ w. formula_tree w.value) xs))) (sym e ∙ f))
 
 -- the same, of what was written
 pub one_formula_written : (out new : List ℕ) (v : Vocabulary) (ws : Formulas) (xs : List (Rc Formula Global)) (x : Rc Formula Global) (d : Formula) → xs ≡ ws.items.items → xs ≡ x ∷ [] → d ≡ x.value

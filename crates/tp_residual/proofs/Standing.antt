@@ -1,12 +1,14 @@
 -- The items of a region itself, as the code lists them, and how its entries are spelled by them.
-use Rattle.std.proofs.Common.{◌≡◌, ℕ, zero, suc, ◌+◌, ◌-◌, ◌≤◌, ◌<◌, List, [], ◌∷◌, ◌++◌, length, get_or, refl, ap, sym, ◌∙◌, subst, codes, arith}
+use Rattle.std.proofs.Common.{◌≡◌, ℕ, zero, suc, ◌+◌, ◌-◌, ◌≤◌, ◌<◌, true, List, [], ◌∷◌, ◌++◌, length, get_or, refl, ap, sym, ◌∙◌, subst, codes, arith}
 use Rattle.std.specs.List.{range_with_len}
-use Rattle.std.proofs.lemmas.List.{append_assoc, append-nil, length-map}
-use Rattle.tp_tree.specs.Levels.{not_level}
+use Rattle.std.proofs.lemmas.List.{append_assoc, length-map}
+use Rattle.tp_tree.specs.Tree.{PhraseTrees, truth}
+use Rattle.tp_tree.specs.Levels.{not_level, kind_level}
+use Rattle.tp_tree.specs.Spelling.{kind_spelling, operands_spelling}
 use Rattle.tp_kernel.specs.Read.{definitions_of}
 use Rattle.tp_scene.specs.Scene.{Entries, none, leaf, node}
 use Rattle.tp_slots.specs.Plain as plain
-use Rattle.tp_slots.specs.Plain.{Slots, slot_at, region_slot, second_of, in_order, of_what, region_entries, entries_at, AreIn, WhatFits, IsOrdered, IsLive}
+use Rattle.tp_slots.specs.Plain.{Slots, region_slot, of_what, entries_at, AreIn, WhatFits, IsOrdered, IsLive}
 use Rattle.tp_slots.specs.Walk.{item_front}
 use Rattle.tp_slots.specs.Own.{own_ids, own_for, own_in, own_inside}
 use Rattle.tp_slots.specs.Shown.{AreShown}
@@ -18,9 +20,10 @@ use Rattle.tp_slots.proofs.Walking.{item_is, entries_are}
 use Rattle.tp_slots.proofs.WalkLemmas.{roots_are}
 use Rattle.tp_slots.proofs.Showing.{all_shown}
 use Rattle.tp_residual.proofs.Conjunctions.{only_item}
-use Rattle.tp_residual.specs.Phrases.{enclosed}
-use Rattle.tp_residual.specs.Residual.{leaf_level, holder_level, entries_level, leaf_spelling, holder_spelling, entries_spelling, later_spelling}
-use Rattle.tp_residual.specs.Seen.{what_level, what_spelling, item_level_in, item_spelling, items_spelling, region_entries_of, region_spelling}
+use Rattle.tp_residual.specs.Phrases.{all_kind}
+use Rattle.tp_residual.specs.Parts.{enclosed}
+use Rattle.tp_residual.specs.Residual.{due_kind, split_kind, entries_phrases}
+use Rattle.tp_residual.specs.Seen.{what_kind, item_kind, item_level_in, item_spelling, items_spelling, region_entries_of, region_kind, region_spelling}
 use Rattle.tp_residual.specs.declared.scene.Residue.{Residue}
 use Rattle.tp_slots.proofs.OwnItems.{in_order_own, item_of_region, slot_is}
 
@@ -123,103 +126,86 @@ as_spelled out new a b e f = f ∙ ap (λ text. out ++ text) e
 shown : (s : Scene) (r : ℕ) → IsOrdered (slots_of s) → r < length s.regions.items → AreShown (slots_of s) r (region_entries_of s r)
 shown s r sound l = let n = length-map s.regions.items region_slot_of in all_shown (slots_of s) sound r (omega (arith, n, l))
 
-level_of_none : (es : Entries) → own_ids es ≡ [] → 0 ≡ entries_level es
-level_of_none none e = refl
-level_of_none (leaf id l rest) e = absurd (cc e)
-level_of_none (node id k h held g second rest) e = absurd (cc e)
-
-level_of_one : (s : Slots) (r t : ℕ) (es : Entries) → AreShown s r es → own_ids es ≡ t ∷ [] → what_level (slot_at s t).what ≡ entries_level es
-level_of_one s r t none a e = absurd (cc e)
-level_of_one s r t (leaf id l none) a e = let i : id ≡ t = cc e in ap (λ u. what_level (slot_at s u).what) (sym i) ∙ ap (λ (y : plain.Slot). what_level y.what) a.1
-level_of_one s r t (leaf id l (leaf id' l' rest)) a e = absurd (cc e)
-level_of_one s r t (leaf id l (node id' k h held g second rest)) a e = absurd (cc e)
-level_of_one s r t (node id k h held g second none) a e = let i : id ≡ t = cc e in ap (λ u. what_level (slot_at s u).what) (sym i) ∙ ap (λ (y : plain.Slot). what_level y.what) a.2
-level_of_one s r t (node id k h held g second (leaf id' l' rest)) a e = absurd (cc e)
-level_of_one s r t (node id k h held g second (node id' k' h' held' g' second' rest)) a e = absurd (cc e)
-
-level_of_several : (es : Entries) → 2 ≤ length (own_ids es) → 7 ≡ entries_level es
-level_of_several none e = absurd (omega (arith, e))
-level_of_several (leaf id l none) e = absurd (omega (arith, e))
-level_of_several (leaf id l (leaf id' l' rest)) e = refl
-level_of_several (leaf id l (node id' k h held g second rest)) e = refl
-level_of_several (node id k h held g second none) e = absurd (omega (arith, e))
-level_of_several (node id k h held g second (leaf id' l' rest)) e = refl
-level_of_several (node id k h held g second (node id' k' h' held' g' second' rest)) e = refl
-
-pub none_level : (s : Scene) (r : ℕ) (ids : List ℕ) → ids ≡ own_inside s r → ids ≡ [] → 0 ≡ entries_level (region_entries_of s r)
-none_level s r ids e f = level_of_none (region_entries_of s r) (sym e ∙ f)
-
-pub one_level : (s : Scene) (r t : ℕ) (ids : List ℕ) → IsOrdered (slots_of s) → r < length s.regions.items → ids ≡ own_inside s r → ids ≡ t ∷ [] → item_level_in s t ≡ entries_level (region_entries_of s r)
-one_level s r t ids sound l e f = level_of_one (slots_of s) r t (region_entries_of s r) (shown s r sound l) (sym e ∙ f)
-
-pub several_level : (s : Scene) (r : ℕ) (ids : List ℕ) → ids ≡ own_inside s r → 2 ≤ length ids → 7 ≡ entries_level (region_entries_of s r)
-several_level s r ids e l = level_of_several (region_entries_of s r) (subst (λ ns. 2 ≤ length ns) e l)
-
 module _ (x : Residue) where
   abbrev seen : Slots
   seen = slots_of x.scene.now
 
-  abbrev spelled : Entries → List ℕ
-  spelled es = entries_spelling x.store.now.variables (definitions_of x.defs.now) es
+  abbrev phrases : Entries → PhraseTrees
+  phrases es = entries_phrases x.store.now.variables (definitions_of x.defs.now) es
 
-  abbrev later : Entries → List ℕ
-  later es = later_spelling x.store.now.variables (definitions_of x.defs.now) es
+  -- an entry is the phrase that its item is
+  leaf_is : (r id : ℕ) (l : _) (rest : Entries) → AreShown seen r (leaf id l rest) → item_kind x id ≡ due_kind x.store.now.variables (definitions_of x.defs.now) l
+  leaf_is r id l rest a = ap (λ (y : plain.Slot). what_kind x.store.now.variables (definitions_of x.defs.now) seen y.what) a.1
 
-  text_of_none : (es : Entries) → own_ids es ≡ [] → spelled es ≡ codes "true"
-  text_of_none none e = refl
-  text_of_none (leaf id l rest) e = absurd (cc e)
-  text_of_none (node id k h held g second rest) e = absurd (cc e)
-
-  -- an entry is spelled as its item is
-  leaf_text : (r id : ℕ) (l : _) (rest : Entries) → AreShown seen r (leaf id l rest) → (item_level_in x.scene.now id ≡ leaf_level l) × (item_spelling x id ≡ leaf_spelling x.store.now.variables (definitions_of x.defs.now) l)
-  leaf_text r id l rest a = (
-    ap (λ (y : plain.Slot). what_level y.what) a.1,
-    ap (λ (y : plain.Slot). what_spelling x.store.now.variables (definitions_of x.defs.now) seen y.what) a.1,
-  )
-
-  node_text : (r id : ℕ) (k : _) (h : _) (held : Entries) (g : _) (second rest : Entries) → AreShown seen r (node id k h held g second rest)
-      → (item_level_in x.scene.now id ≡ holder_level k) × (item_spelling x id ≡ holder_spelling x.store.now.variables (definitions_of x.defs.now) k (entries_level held) (spelled held) (entries_level second) (spelled second))
-  node_text r id k h held g second rest a =
+  node_is : (r id : ℕ) (k : _) (h : _) (held : Entries) (g : _) (second rest : Entries) → AreShown seen r (node id k h held g second rest)
+      → item_kind x id ≡ split_kind x.store.now.variables (definitions_of x.defs.now) k (all_kind (phrases held)) (all_kind (phrases second))
+  node_is r id k h held g second rest a =
       let b = a.4 in
-      let d = a.6 in (
-        ap (λ (y : plain.Slot). what_level y.what) a.2,
-        ap (λ (y : plain.Slot). what_spelling x.store.now.variables (definitions_of x.defs.now) seen y.what) a.2
-            ∙ sym (λ i. holder_spelling x.store.now.variables (definitions_of x.defs.now) k (entries_level (b i)) (spelled (b i)) (entries_level (d i)) (spelled (d i))),
-      )
+      let d = a.6 in
+      ap (λ (y : plain.Slot). what_kind x.store.now.variables (definitions_of x.defs.now) seen y.what) a.2
+      ∙ sym (λ i. split_kind x.store.now.variables (definitions_of x.defs.now) k (all_kind (phrases (b i))) (all_kind (phrases (d i))))
 
-  text_of_one : (r t : ℕ) (es : Entries) → AreShown seen r es → own_ids es ≡ t ∷ [] → item_spelling x t ≡ spelled es
-  text_of_one r t none a e = absurd (cc e)
-  text_of_one r t (leaf id l none) a e = let i : id ≡ t = cc e in ap (item_spelling x) (sym i) ∙ ((leaf_text r id l none a).1 ∙ sym (append-nil _))
-  text_of_one r t (leaf id l (leaf id' l' rest)) a e = absurd (cc e)
-  text_of_one r t (leaf id l (node id' k h held g second rest)) a e = absurd (cc e)
-  text_of_one r t (node id k h held g second none) a e = let i : id ≡ t = cc e in ap (item_spelling x) (sym i) ∙ ((node_text r id k h held g second none a).1 ∙ sym (append-nil _))
-  text_of_one r t (node id k h held g second (leaf id' l' rest)) a e = absurd (cc e)
-  text_of_one r t (node id k h held g second (node id' k' h' held' g' second' rest)) a e = absurd (cc e)
+  kind_of_none : (es : Entries) → own_ids es ≡ [] → all_kind (phrases es) ≡ truth true
+  kind_of_none none e = refl
+  kind_of_none (leaf id l rest) e = absurd (cc e)
+  kind_of_none (node id k h held g second rest) e = absurd (cc e)
 
-  text_of_later : (r : ℕ) (es : Entries) → AreShown seen r es → items_spelling x (codes " and ") (own_ids es) ≡ later es
-  text_of_later r none a = refl
-  text_of_later r (leaf id l rest) a = let b = leaf_text r id l rest a in let c = b.0 in let d = b.1 in let e = text_of_later r rest a.2 in (λ i. (codes " and " ++ enclosed not_level (c i) (d i)) ++ e i)
-  text_of_later r (node id k h held g second rest) a =
-      let b = node_text r id k h held g second rest a in let c = b.0 in let d = b.1 in let e = text_of_later r rest a.9 in (λ i. (codes " and " ++ enclosed not_level (c i) (d i)) ++ e i)
+  kind_of_one : (r t : ℕ) (es : Entries) → AreShown seen r es → own_ids es ≡ t ∷ [] → item_kind x t ≡ all_kind (phrases es)
+  kind_of_one r t none a e = absurd (cc e)
+  kind_of_one r t (leaf id l none) a e = let i : id ≡ t = cc e in ap (item_kind x) (sym i) ∙ leaf_is r id l none a
+  kind_of_one r t (leaf id l (leaf id' l' rest)) a e = absurd (cc e)
+  kind_of_one r t (leaf id l (node id' k h held g second rest)) a e = absurd (cc e)
+  kind_of_one r t (node id k h held g second none) a e = let i : id ≡ t = cc e in ap (item_kind x) (sym i) ∙ node_is r id k h held g second none a
+  kind_of_one r t (node id k h held g second (leaf id' l' rest)) a e = absurd (cc e)
+  kind_of_one r t (node id k h held g second (node id' k' h' held' g' second' rest)) a e = absurd (cc e)
 
-  text_of_several : (r : ℕ) (es : Entries) → AreShown seen r es → 2 ≤ length (own_ids es) → items_spelling x [] (own_ids es) ≡ spelled es
-  text_of_several r none a n = absurd (omega (arith, n))
-  text_of_several r (leaf id l none) a n = absurd (omega (arith, n))
-  text_of_several r (leaf id l (leaf id' l' rest)) a n =
-      let b = leaf_text r id l (leaf id' l' rest) a in let c = b.0 in let d = b.1 in let e = text_of_later r (leaf id' l' rest) a.2 in (λ i. enclosed not_level (c i) (d i) ++ e i)
-  text_of_several r (leaf id l (node id' k h held g second rest)) a n =
-      let b = leaf_text r id l (node id' k h held g second rest) a in let c = b.0 in let d = b.1 in let e = text_of_later r (node id' k h held g second rest) a.2 in (λ i. enclosed not_level (c i) (d i) ++ e i)
-  text_of_several r (node id k h held g second none) a n = absurd (omega (arith, n))
-  text_of_several r (node id k h held g second (leaf id' l' rest)) a n =
-      let b = node_text r id k h held g second (leaf id' l' rest) a in let c = b.0 in let d = b.1 in let e = text_of_later r (leaf id' l' rest) a.9 in (λ i. enclosed not_level (c i) (d i) ++ e i)
-  text_of_several r (node id k h held g second (node id' k' h' held' g' second' rest)) a n =
-      let b = node_text r id k h held g second (node id' k' h' held' g' second' rest) a in let c = b.0 in let d = b.1 in let e = text_of_later r (node id' k' h' held' g' second' rest) a.9 in (λ i. enclosed not_level (c i) (d i) ++ e i)
+  level_of_several : (es : Entries) → 2 ≤ length (own_ids es) → 7 ≡ kind_level (all_kind (phrases es))
+  level_of_several none e = absurd (omega (arith, e))
+  level_of_several (leaf id l none) e = absurd (omega (arith, e))
+  level_of_several (leaf id l (leaf id' l' rest)) e = refl
+  level_of_several (leaf id l (node id' k h held g second rest)) e = refl
+  level_of_several (node id k h held g second none) e = absurd (omega (arith, e))
+  level_of_several (node id k h held g second (leaf id' l' rest)) e = refl
+  level_of_several (node id k h held g second (node id' k' h' held' g' second' rest)) e = refl
+
+  text_of_each : (r : ℕ) (opening : List ℕ) (es : Entries) → AreShown seen r es → items_spelling x opening (own_ids es) ≡ operands_spelling opening (codes " and ") not_level (phrases es)
+  text_of_each r opening none a = refl
+  text_of_each r opening (leaf id l rest) a =
+      let b = leaf_is r id l rest a in let c = text_of_each r (codes " and ") rest a.2 in (λ i. opening ++ enclosed not_level (kind_level (b i)) (kind_spelling (b i)) ++ c i)
+  text_of_each r opening (node id k h held g second rest) a =
+      let b = node_is r id k h held g second rest a in let c = text_of_each r (codes " and ") rest a.9 in (λ i. opening ++ enclosed not_level (kind_level (b i)) (kind_spelling (b i)) ++ c i)
+
+  listed : (es : Entries) → 2 ≤ length (own_ids es) → operands_spelling [] (codes " and ") not_level (phrases es) ≡ kind_spelling (all_kind (phrases es))
+  listed none n = absurd (omega (arith, n))
+  listed (leaf id l none) n = absurd (omega (arith, n))
+  listed (leaf id l (leaf id' l' rest)) n = refl
+  listed (leaf id l (node id' k' h' held' g' second' rest)) n = refl
+  listed (node id k h held g second none) n = absurd (omega (arith, n))
+  listed (node id k h held g second (leaf id' l' rest)) n = refl
+  listed (node id k h held g second (node id' k' h' held' g' second' rest)) n = refl
+
+  none_is : (r : ℕ) (ids : List ℕ) → ids ≡ own_inside x.scene.now r → ids ≡ [] → region_kind x r ≡ truth true
+  none_is r ids e f = kind_of_none (region_entries_of x.scene.now r) (sym e ∙ f)
+
+  one_is : (r t : ℕ) (ids : List ℕ) → IsOrdered seen → r < length x.scene.now.regions.items → ids ≡ own_inside x.scene.now r → ids ≡ t ∷ [] → item_kind x t ≡ region_kind x r
+  one_is r t ids sound l e f = kind_of_one r t (region_entries_of x.scene.now r) (shown x.scene.now r sound l) (sym e ∙ f)
+
+  pub none_level : (r : ℕ) (ids : List ℕ) → ids ≡ own_inside x.scene.now r → ids ≡ [] → 0 ≡ kind_level (region_kind x r)
+  none_level r ids e f = ap kind_level (sym (none_is r ids e f))
+
+  pub one_level : (r t : ℕ) (ids : List ℕ) → IsOrdered seen → r < length x.scene.now.regions.items → ids ≡ own_inside x.scene.now r → ids ≡ t ∷ [] → item_level_in x t ≡ kind_level (region_kind x r)
+  one_level r t ids sound l e f = ap kind_level (one_is r t ids sound l e f)
+
+  pub several_level : (r : ℕ) (ids : List ℕ) → ids ≡ own_inside x.scene.now r → 2 ≤ length ids → 7 ≡ kind_level (region_kind x r)
+  several_level r ids e l = level_of_several (region_entries_of x.scene.now r) (subst (λ ns. 2 ≤ length ns) e l)
 
   pub none_written : (r : ℕ) (ids : List ℕ) → ids ≡ own_inside x.scene.now r → ids ≡ [] → region_spelling x r ≡ codes "true"
-  none_written r ids e f = text_of_none (region_entries_of x.scene.now r) (sym e ∙ f)
+  none_written r ids e f = ap kind_spelling (none_is r ids e f)
 
   pub one_written : (r t : ℕ) (ids : List ℕ) → IsOrdered seen → r < length x.scene.now.regions.items → ids ≡ own_inside x.scene.now r → ids ≡ t ∷ [] → item_spelling x t ≡ region_spelling x r
-  one_written r t ids sound l e f = text_of_one r t (region_entries_of x.scene.now r) (shown x.scene.now r sound l) (sym e ∙ f)
+  one_written r t ids sound l e f = ap kind_spelling (one_is r t ids sound l e f)
 
   pub several_written : (r : ℕ) (ids : List ℕ) → IsOrdered seen → r < length x.scene.now.regions.items → ids ≡ own_inside x.scene.now r → 2 ≤ length ids → items_spelling x [] ids ≡ region_spelling x r
-  several_written r ids sound l e n = ap (items_spelling x []) e ∙ text_of_several r (region_entries_of x.scene.now r) (shown x.scene.now r sound l) (subst (λ ns. 2 ≤ length ns) e n)
+  several_written r ids sound l e n =
+      let es = region_entries_of x.scene.now r in
+      ap (items_spelling x []) e ∙ (text_of_each r [] es (shown x.scene.now r sound l) ∙ listed es (subst (λ ns. 2 ≤ length ns) e n))

@@ -1,4 +1,5 @@
 pub mod Phrases
+pub mod Parts
 pub mod Residual
 pub mod Carried
 pub mod Read

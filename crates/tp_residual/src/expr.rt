@@ -4,8 +4,9 @@ ghost use Rattle.std.specs.Fmt.{signed_decimal};
 ghost use Rattle.tp_tree.specs.Levels.{any_level};
 ghost use Rattle.tp_tree.specs.Spelling.{op_spelling, truth_spelling};
 ghost use Rattle.tp_kernel.specs.Read.{expr_tree, expr_trees, operator_of};
-ghost use Rattle.tp_residual.specs.Phrases as spec;
-ghost use Rattle.tp_residual.specs.Phrases.{all_exprs_spelling, called_with, exprs_spelling, operand_expr, phrase_operator, definition_name};
+ghost use Rattle.tp_residual.specs.Parts as spec;
+ghost use Rattle.tp_residual.specs.Parts.{all_exprs_spelling, called_with, exprs_spelling, operand_expr};
+ghost use Rattle.tp_residual.specs.Phrases.{Vocabulary, phrase_operator, definition_name};
 ghost use Rattle.tp_residual.specs.Read.{vocabulary_of};
 
 use crate::words::{Words, append_bound, append_definition_name, append_variable};
@@ -39,12 +40,12 @@ fn operator(op: Op2) -> Op
 /// The level of an expression.
 #[cycle(expr_levels)]
 pub fn expr_level(expr: &Expr) -> u8
-    ensures { result ≡ spec.expr_level (expr_tree expr.now) }
+    ensures { (v : Vocabulary) → result ≡ spec.expr_level v (expr_tree expr.now) }
 {
     match expr {
-        Expr::Number(_) | Expr::Truth(_) | Expr::Known(_) | Expr::Global(_) => 0,
+        Expr::Number(_) | Expr::Truth(_) | Expr::Known(_) | Expr::Bound(_) | Expr::Global(_) => 0,
         Expr::List(_) | Expr::Size(_) | Expr::Call(_, _) => 0,
-        Expr::Bound(_) | Expr::Index(_, _) => INDEX,
+        Expr::Index(_, _) => INDEX,
         Expr::Minus(_) => PREFIX,
         Expr::Not(_) => NOT,
         Expr::Both(operands) => exprs_level(operands),
@@ -57,7 +58,7 @@ pub fn expr_level(expr: &Expr) -> u8
 // The level of these as the operands of a conjunction.
 #[cycle(expr_levels)]
 fn exprs_level(operands: &Exprs) -> u8
-    ensures { result ≡ spec.exprs_level (expr_trees operands.now) }
+    ensures { (v : Vocabulary) → result ≡ spec.exprs_level v (expr_trees operands.now) }
 {
     match operands.items.as_slice() {
         [] => 0,
@@ -245,8 +246,8 @@ pub fn append_between(
         (out.new
         ≡ out.old
         ++ spec.operation_spelling op
-        (spec.expr_level (expr_tree left.now)) (spec.expr_spelling v (expr_tree left.now))
-        (spec.expr_level (expr_tree right.now)) (spec.expr_spelling v (expr_tree right.now))) }
+        (spec.expr_level v (expr_tree left.now)) (spec.expr_spelling v (expr_tree left.now))
+        (spec.expr_level v (expr_tree right.now)) (spec.expr_spelling v (expr_tree right.now))) }
 {
     append_operand(out, words, left, left_level(op))?;
     append_operator(out, op)?;

@@ -3,8 +3,9 @@ ghost use Rattle.std.specs.Prelude.{◌≡◌, ◌++◌, [], OnOk, codes};
 ghost use Rattle.tp_kernel.specs.Read.{expr_tree, expr_trees, formula_tree, formula_trees};
 ghost use Rattle.tp_meaning.specs.Syntax as syntax;
 ghost use Rattle.tp_tree.specs.Levels.{any_level};
-ghost use Rattle.tp_residual.specs.Phrases as spec;
-ghost use Rattle.tp_residual.specs.Phrases.{all_formulas_spelling, called_with, counted_spelling, enclosed, formula_spelling, formulas_spelling, from_spelling, nexts_spelling, naming};
+ghost use Rattle.tp_residual.specs.Parts as spec;
+ghost use Rattle.tp_residual.specs.Parts.{all_formulas_spelling, called_with, counted_spelling, formula_spelling, formulas_spelling, nexts_spelling, operand_formula};
+ghost use Rattle.tp_residual.specs.Phrases.{Vocabulary, from_spelling, naming};
 ghost use Rattle.tp_residual.specs.Chain.{naming_all, within_spelling};
 ghost use Rattle.tp_residual.specs.Read.{vocabulary_of};
 
@@ -22,7 +23,7 @@ use tp_value::{NoMemory, Number, Text, Texts};
 /// The level of a formula.
 #[cycle(formula_levels)]
 pub fn formula_level(formula: &Formula) -> u8
-    ensures { result ≡ spec.formula_level (formula_tree formula.now) }
+    ensures { (v : Vocabulary) → result ≡ spec.formula_level v (formula_tree formula.now) }
 {
     match formula {
         Formula::True | Formula::Empty | Formula::More | Formula::Always(_) => 0,
@@ -30,7 +31,8 @@ pub fn formula_level(formula: &Formula) -> u8
         Formula::Call(_, _) | Formula::Input(_, _) | Formula::Display(_) => 0,
         Formula::Test(expr) => expr_level(expr),
         Formula::Eq(_, _) | Formula::NextEq(_, _, _) | Formula::Assign(_, _) => RELATION,
-        Formula::Next(_) | Formula::WeakNext(_) => PREFIX,
+        Formula::WeakNext(_) => 0,
+        Formula::Next(_) => PREFIX,
         Formula::And(operands) => formulas_level(operands),
         Formula::Chop(_, _) => CHOP,
         Formula::Proj(_, _) => PROJ,
@@ -42,7 +44,7 @@ pub fn formula_level(formula: &Formula) -> u8
 // The level of these as the operands of a conjunction.
 #[cycle(formula_levels)]
 fn formulas_level(operands: &Formulas) -> u8
-    ensures { result ≡ spec.formulas_level (formula_trees operands.now) }
+    ensures { (v : Vocabulary) → result ≡ spec.formulas_level v (formula_trees operands.now) }
 {
     match operands.items.as_slice() {
         [] => 0,
@@ -120,6 +122,9 @@ fn append_next_equation(
         ++ formula_spelling (vocabulary_of words.now)
         (syntax.next_equation count (expr_tree left.now) (expr_tree right.now))) }
 {
+    if count == 0 {
+        return append_between(out, words, Op::Equal, left, right);
+    }
     append_nexts(out, count)?;
     append_operand(out, words, left, PREFIX)?;
     append_after(out, words, b" = ", right, SUM)
@@ -233,12 +238,11 @@ fn append_within(
     formula: &Formula,
     most: u8,
 ) -> Result<(), NoMemory>
-    ensures { let w = formula_tree formula.now in OnOk result
+    ensures { OnOk result
         (out.new
         ≡ out.old
         ++ (before.now
-        ++ enclosed most (spec.formula_level w)
-        (formula_spelling (vocabulary_of words.now) w))) }
+        ++ operand_formula (vocabulary_of words.now) most (formula_tree formula.now))) }
 {
     out.append(before)?;
     append_part(out, words, formula, most)
@@ -247,10 +251,9 @@ fn append_within(
 // Appends the formula, bare where its level is at most this, else in parentheses.
 #[cycle(formulas)]
 fn append_part(out: &mut Text, words: &Words, formula: &Formula, most: u8) -> Result<(), NoMemory>
-    ensures { let w = formula_tree formula.now in OnOk result
+    ensures { OnOk result
         (out.new
-        ≡ out.old
-        ++ enclosed most (spec.formula_level w) (formula_spelling (vocabulary_of words.now) w)) }
+        ≡ out.old ++ operand_formula (vocabulary_of words.now) most (formula_tree formula.now)) }
 {
     if formula_level(formula) <= most {
         append_formula(out, words, formula)
@@ -307,12 +310,9 @@ fn append_body(
     name: &Text,
     body: &Formula,
 ) -> Result<(), NoMemory>
-    ensures { let w = formula_tree body.now in OnOk result
+    ensures { let v = naming (vocabulary_of words.now) name.now in OnOk result
         (out.new
-        ≡ out.old
-        ++ (before.now
-        ++ enclosed any_level (spec.formula_level w)
-        (formula_spelling (naming (vocabulary_of words.now) name.now) w))) }
+        ≡ out.old ++ (before.now ++ operand_formula v any_level (formula_tree body.now))) }
 {
     let bound = Bound::Inside {
         name,

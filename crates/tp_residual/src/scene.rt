@@ -1,14 +1,13 @@
 // How the scene with which a state begins is spelled.
 ghost use Rattle.std.specs.Prelude.{◌≡◌, ◌<◌, ◌++◌, length, IfOk, OnOk};
-ghost use Rattle.tp_tree.specs.Levels.{not_level};
+ghost use Rattle.tp_tree.specs.Levels.{not_level, kind_level};
+ghost use Rattle.tp_tree.specs.Spelling.{kind_spelling};
 ghost use Rattle.tp_decide.specs.ReadPhrase.{env_of, formula_of};
 ghost use Rattle.tp_slots.specs.Own.{own_for, own_inside};
 ghost use Rattle.tp_slots.specs.Plain.{IsOrdered};
 ghost use Rattle.tp_slots.specs.Read.{slots_of};
-ghost use Rattle.tp_residual.specs.Phrases.{enclosed};
-ghost use Rattle.tp_residual.specs.Phrases as spec;
-ghost use Rattle.tp_residual.specs.Residual as plain;
-ghost use Rattle.tp_residual.specs.Seen.{item_level_in, item_spelling, phrase_spelling, region_entries_of, region_spelling};
+ghost use Rattle.tp_residual.specs.Parts.{enclosed};
+ghost use Rattle.tp_residual.specs.Seen.{item_level_in, item_spelling, phrase_kind, region_kind, region_spelling};
 
 use crate::expr::append_operator;
 use crate::formula::{append_formula, formula_level};
@@ -62,11 +61,11 @@ fn own_items(alloc: Global, scene: &Scene, region: u64) -> Result<Vec<u64>, NoMe
 }
 
 // The level of an item. A scene with which a state begins has items of the first two kinds alone.
-fn item_level(scene: &Scene, item: u64) -> u8
-    requires { item < length scene.now.slots.items }
-    ensures { result ≡ item_level_in scene.now item }
+fn item_level(residue: &Residue, item: u64) -> u8
+    requires { item < length residue.now.scene.now.slots.items }
+    ensures { result ≡ item_level_in residue.now item }
 {
-    match &scene.slots[item as usize].what {
+    match &residue.scene.slots[item as usize].what {
         What::Leaf(Leaf::Do(phrase)) => formula_level(&phrase.what),
         What::Leaf(Leaf::Later(_) | Leaf::Shown(_)) => 0,
         What::Holder(Holder::Split { .. } | Holder::SplitProject { .. }) => CHOP,
@@ -76,15 +75,15 @@ fn item_level(scene: &Scene, item: u64) -> u8
 }
 
 // The level of a region's entries, which are these items.
-fn entries_level(scene: &Scene, region: u64, items: &[u64]) -> u8
-    requires sound { IsOrdered (slots_of scene.now) }
-    requires region { region < length scene.now.regions.items }
-    requires items { items.now ≡ own_inside scene.now region }
-    ensures { result ≡ plain.entries_level (region_entries_of scene.now region) }
+fn entries_level(residue: &Residue, region: u64, items: &[u64]) -> u8
+    requires sound { IsOrdered (slots_of residue.now.scene.now) }
+    requires region { region < length residue.now.scene.now.regions.items }
+    requires items { items.now ≡ own_inside residue.now.scene.now region }
+    ensures { result ≡ kind_level (region_kind residue.now region) }
 {
     match items {
         [] => 0,
-        [item] => item_level(scene, *item),
+        [item] => item_level(residue, *item),
         _ => AND,
     }
 }
@@ -92,7 +91,9 @@ fn entries_level(scene: &Scene, region: u64, items: &[u64]) -> u8
 // Appends a formula with what its bound names stand for, with no parentheses round the whole.
 fn append_whole(out: &mut Text, residue: &Residue, phrase: &Phrase) -> Result<(), NoMemory>
     ensures { OnOk result
-        (out.new ≡ out.old ++ phrase_spelling residue.now (env_of phrase.now) (formula_of phrase.now)) }
+        (out.new
+        ≡ out.old
+        ++ kind_spelling (phrase_kind residue.now (env_of phrase.now) (formula_of phrase.now))) }
 {
     let bound = Bound::Around(&phrase.env);
     let words = Words {
@@ -111,11 +112,8 @@ fn append_phrase(
     phrase: &Phrase,
     most: u8,
 ) -> Result<(), NoMemory>
-    ensures { OnOk result
-        (out.new
-        ≡ out.old
-        ++ enclosed most (spec.formula_level (formula_of phrase.now))
-        (phrase_spelling residue.now (env_of phrase.now) (formula_of phrase.now))) }
+    ensures { let k = phrase_kind residue.now (env_of phrase.now) (formula_of phrase.now) in OnOk
+        result (out.new ≡ out.old ++ enclosed most (kind_level k) (kind_spelling k)) }
 {
     if formula_level(&phrase.what) <= most {
         append_whole(out, residue, phrase)
@@ -134,11 +132,11 @@ fn append_region(out: &mut Text, residue: &Residue, region: u64, most: u8) -> Re
     ensures { OnOk result
         (out.new
         ≡ out.old
-        ++ enclosed most (plain.entries_level (region_entries_of residue.now.scene.now region))
+        ++ enclosed most (kind_level (region_kind residue.now region))
         (region_spelling residue.now region)) }
 {
     let items = own_items(residue.alloc, residue.scene, region)?;
-    if entries_level(residue.scene, region, items.as_slice()) <= most {
+    if entries_level(residue, region, items.as_slice()) <= most {
         append_items(out, residue, region, items.as_slice())
     } else {
         out.append(b"(")?;
@@ -188,11 +186,11 @@ fn append_operand(
         (out.new
         ≡ out.old
         ++ (before.now
-        ++ enclosed not_level (item_level_in residue.now.scene.now item)
+        ++ enclosed not_level (item_level_in residue.now item)
         (item_spelling residue.now item))) }
 {
     out.append(before)?;
-    if item_level(residue.scene, item) <= NOT {
+    if item_level(residue, item) <= NOT {
         append_item(out, residue, item)
     } else {
         out.append(b"(")?;

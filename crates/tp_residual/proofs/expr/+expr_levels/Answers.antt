@@ -5,4 +5,4 @@ use Rattle.tp_residual.proofs.expr.+expr_levels.Goals as goal
 pub exprs_level-returns-in_default : goal.exprs_level-returns-in_default
 exprs_level-returns-in_default t c =
     let n : 2 ≤ length c.args.operands.now.items.items = search rules in
-    exprs_level_is c.args.operands.now n
+    λ v. exprs_level_is v c.args.operands.now n

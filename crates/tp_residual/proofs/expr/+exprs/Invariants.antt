@@ -1,7 +1,7 @@
 use Rattle.std.proofs.Common.{◌≡◌, ◌++◌, [], map, drop}
 use Rattle.tp_meaning.specs.Syntax.{exprs_of}
 use Rattle.tp_kernel.specs.Read.{expr_tree, expr_trees}
-use Rattle.tp_residual.specs.Phrases.{exprs_spelling}
+use Rattle.tp_residual.specs.Parts.{exprs_spelling}
 use Rattle.tp_residual.specs.Read.{vocabulary_of}
 use Rattle.tp_residual.proofs.expr.+exprs.Given as goal
 

@@ -5,4 +5,4 @@ use Rattle.tp_residual.proofs.formula.+formula_levels.Goals as goal
 pub formulas_level-returns-in_default : goal.formulas_level-returns-in_default
 formulas_level-returns-in_default t c =
     let n : 2 ≤ length c.args.operands.now.items.items = search rules in
-    formulas_level_is c.args.operands.now n
+    λ v. formulas_level_is v c.args.operands.now n

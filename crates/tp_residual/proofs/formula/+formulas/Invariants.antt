@@ -1,7 +1,7 @@
 use Rattle.std.proofs.Common.{◌≡◌, ◌++◌, [], map, drop}
 use Rattle.tp_meaning.specs.Syntax.{formulas_of}
 use Rattle.tp_kernel.specs.Read.{formula_tree, formula_trees}
-use Rattle.tp_residual.specs.Phrases.{formulas_spelling}
+use Rattle.tp_residual.specs.Parts.{formulas_spelling}
 use Rattle.tp_residual.specs.Read.{vocabulary_of}
 use Rattle.tp_residual.proofs.formula.+formulas.Given as goal
 

@@ -1,5 +1,5 @@
 use Rattle.std.proofs.Common.{◌≡◌, ◌++◌}
-use Rattle.tp_residual.specs.Phrases.{nexts_spelling}
+use Rattle.tp_residual.specs.Parts.{nexts_spelling}
 use Rattle.tp_residual.proofs.formula.append_nexts.Given as goal
 
 abbrev pub invariant-loop : goal.invariant-loop
