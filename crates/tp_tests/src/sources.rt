@@ -1,4 +1,4 @@
-// What is made of a text, step by step.
+// The program that a text is.
 ghost use Rattle.std.specs.Prelude.{IfOk};
 ghost use Rattle.tp_meaning.specs.Fits.{ProgramFits};
 ghost use Rattle.tp_check.specs.Read.{program_tree};
@@ -8,25 +8,19 @@ use std::test::Fail;
 use tp_check::{Program, check};
 use tp_lex::{LexRefusal, Tokens, tokens};
 use tp_parse::parse;
-use tp_tree::Source;
 
-pub fn tokens_of(alloc: Global, text: &[u8]) -> Result<Tokens, LexRefusal> {
+fn tokens_of(alloc: Global, text: &[u8]) -> Result<Tokens, LexRefusal> {
     if text.len() > 1_048_576 {
         return Err(LexRefusal::NoMemory);
     }
     tokens(alloc, text)
 }
 
-pub fn source_of(alloc: Global, text: &str) -> Result<Source, Fail> {
-    let tokens = tokens_of(alloc, text.as_bytes())?;
-    let source = parse(alloc, &tokens)?;
-    Ok(source)
-}
-
 pub fn program_of(alloc: Global, text: &str) -> Result<Program, Fail>
     ensures fits { IfOk result (λ p. ProgramFits (program_tree p)) }
 {
-    let source = source_of(alloc, text)?;
+    let tokens = tokens_of(alloc, text.as_bytes())?;
+    let source = parse(alloc, &tokens)?;
     let program = check(alloc, &source)?;
     Ok(program)
 }

@@ -3,12 +3,6 @@ use std::alloc::Global;
 use std::test::Fail;
 use tp_value::NoMemory;
 
-/// What stands before the first of these marks in a row, and what stands behind it, without blanks around them.
-pub fn cut<'a>(row: &'a str, mark: &str) -> Result<(&'a str, &'a str), Fail> {
-    let (before, behind) = row.split_once(mark).ok_or("a row without its mark")?;
-    Ok((before.trim(), behind.trim()))
-}
-
 /// The parts of a row between these marks, without blanks around them.
 pub fn parts<'a>(alloc: Global, row: &'a str, mark: char) -> Result<Vec<&'a str>, NoMemory> {
     let mut all = Vec::new(alloc);
@@ -19,7 +13,7 @@ pub fn parts<'a>(alloc: Global, row: &'a str, mark: char) -> Result<Vec<&'a str>
 }
 
 /// The number that a text is.
-pub fn number(text: &str) -> Result<u32, Fail> {
-    let number = text.parse::<u32>().ok().ok_or("no number")?;
+pub fn number(text: &str) -> Result<u64, Fail> {
+    let number = text.parse::<u64>().ok().ok_or("no number")?;
     Ok(number)
 }

@@ -1,136 +1,156 @@
-// Reads and writes that fail, and how many there are of each.
-use crate::calls::code_of;
+// Reads and writes that fail, one or two of them, and how many there are of each.
+use crate::calls::{code_of, contents};
 use crate::expected::{holds, same_bytes, same_number};
-use crate::making::contents;
 use std::alloc::Global;
+use std::process::Abort;
 use std::test::Fail;
 use tp_io::{Failure, FileRefusal, Files, Page, Shelf, Sink, WriteRefusal};
-use tp_value::{Bytes, NoMemory, Text};
+use tp_value::NoMemory;
 
-const SOURCE: &[u8] = b"run A=0 and next A = A+1 and next empty.";
+// Words and a source; the number of the read that fails, if the call gets to it; that of the write, and how many bytes of it are kept; and the
+// exit status, and what is written.
+type Row = (
+    &'static str,
+    &'static str,
+    u64,
+    (u64, usize),
+    u64,
+    &'static str,
+);
+
+const SOURCE: &str = "run A=0 and next A = A+1 and next empty.";
+
+const RUN: &str = "state 0: A=0\nstate 1: A=1\nfinished: length 1\n";
 
 // A state of which two lines are written.
-const SHOWN: &[u8] = b"run display(5) and skip.";
+const SHOWN: &str = "run display(5) and skip.";
 
-// Of a source, the write with this number fails and keeps so many bytes: the exit status, and the text. A run makes one write for each settled
-// state, with the lines that it shows, and one for the end line, so where the fourth fails, none did.
-const WRITES: [(&[u8], u64, usize, u64, &str); 6] = [
-    (SOURCE, 1, 3, 15, "sta"),
-    (SOURCE, 2, 4, 15, "state 0: A=0\nstat"),
-    (SOURCE, 3, 0, 15, "state 0: A=0\nstate 1: A=1\n"),
+// A run makes one write for each settled state, with the lines that it shows, and one for the end line; a spelling is one write. Where the write
+// that would fail is one more, none does.
+const WRITES: [Row; 13] = [
+    ("run a.t", SOURCE, 2, (1, 0), 15, ""),
+    ("run a.t", SOURCE, 2, (1, 3), 15, "sta"),
+    ("run a.t", SOURCE, 2, (1, 13), 15, "state 0: A=0\n"),
+    ("run a.t", SOURCE, 2, (2, 4), 15, "state 0: A=0\nstat"),
     (
+        "run a.t",
         SOURCE,
-        4,
-        0,
-        0,
-        "state 0: A=0\nstate 1: A=1\nfinished: length 1\n",
+        2,
+        (3, 0),
+        15,
+        "state 0: A=0\nstate 1: A=1\n",
     ),
-    (SHOWN, 1, 11, 15, "state 0:\nsh"),
-    (SHOWN, 2, 5, 15, "state 0:\nshow 5\nstate"),
+    ("run a.t", SOURCE, 2, (3, 99), 15, RUN),
+    ("run a.t", SOURCE, 2, (4, 0), 0, RUN),
+    ("run a.t", SHOWN, 2, (1, 11), 15, "state 0:\nsh"),
+    ("run a.t", SHOWN, 2, (2, 5), 15, "state 0:\nshow 5\nstate"),
+    ("print a.t", "run(empty).", 2, (1, 0), 15, ""),
+    ("print a.t", "run(empty).", 2, (1, 5), 15, "run e"),
+    ("print a.t", "run(empty).", 2, (2, 0), 0, "run empty.\n"),
+    ("show a.t", SOURCE, 1, (1, 5), 15, "words"),
 ];
+
+const INPUT: &str = "run always(input(A, p)) and empty.";
+
+// Inputs are read behind a program alone. What a read tells that fails is one write, which may fail, too.
+const READS: [Row; 8] = [
+    ("run a.t", SOURCE, 1, (2, 0), 14, "read fault: source\n"),
+    (
+        "run a.t --inputs a.i",
+        INPUT,
+        1,
+        (2, 0),
+        14,
+        "read fault: source\n",
+    ),
+    (
+        "run a.t --inputs a.i",
+        INPUT,
+        2,
+        (2, 0),
+        14,
+        "read fault: inputs\n",
+    ),
+    (
+        "run a.t --inputs a.i",
+        INPUT,
+        3,
+        (3, 0),
+        0,
+        "state 0: A=1\nfinished: length 0\n",
+    ),
+    (
+        "run a.t --inputs a.i",
+        "run or.",
+        2,
+        (2, 0),
+        10,
+        "source refused: line 1 column 5: unexpected\n",
+    ),
+    (
+        "check a.t --with a.i",
+        SOURCE,
+        2,
+        (2, 0),
+        14,
+        "read fault: other\n",
+    ),
+    ("run a.t --inputs a.i", INPUT, 1, (1, 0), 15, ""),
+    ("run a.t --inputs a.i", INPUT, 2, (1, 4), 15, "read"),
+];
+
+// Files of which the read with this number fails, and the next one, too.
+fn failing_shelf(alloc: Global, source: &str, read: u64) -> Result<Shelf, NoMemory> {
+    let files = contents(alloc, source)?;
+    let failing = vec![in alloc; read, read.saturating_add(1)]?;
+    Ok(Shelf::new(alloc, files, failing))
+}
 
 // A page of which the write with this number fails and keeps so many bytes, and the next one fails and keeps none.
 fn failing_page(alloc: Global, call: u64, kept: usize) -> Result<Page, NoMemory> {
+    let next = call.saturating_add(1);
     let failing = vec![in alloc;
         Failure { call, kept },
         Failure {
-            call: call.saturating_add(1),
+            call: next,
             kept: 0
         },
     ]?;
     Ok(Page::new(alloc, failing))
 }
 
-// A shelf of which the second read fails.
-fn failing_shelf(alloc: Global, source: &[u8]) -> Result<Shelf, NoMemory> {
-    let files = contents(alloc, "a.t", source)?;
-    let failing = vec![in alloc; 2u64]?;
-    Ok(Shelf::new(alloc, files, failing))
+// Expects that the next read and the next write fail. So the call has made none behind those that failed, and no fewer.
+fn expect_next(rt: &(impl Abort + AllocGlobal), shelf: &mut Shelf, page: &mut Page, row: &str) {
+    let read = shelf.read(rt.alloc(), "a.t", 9).err();
+    holds(rt, read == Some(FileRefusal::Failed), row);
+    let write = page.write(rt.alloc(), b"!").err();
+    holds(rt, write == Some(WriteRefusal::Failed), row);
+}
+
+fn expect(rt: &(impl Abort + AllocGlobal), row: &Row) -> Result<(), Fail> {
+    let alloc = rt.alloc();
+    let (words, source, read, (write, kept), code, text) = row;
+    let mut shelf = failing_shelf(alloc, source, *read)?;
+    let mut page = failing_page(alloc, *write, *kept)?;
+    let found = code_of(alloc, words, &mut shelf, &mut page)?;
+    same_number(rt, found, *code, text);
+    expect_next(rt, &mut shelf, &mut page, text);
+    same_bytes(rt, page.text(alloc)?.as_slice(), text, words);
+    Ok(())
 }
 
 #[test]
 fn nothing_is_asked_or_written_after_a_failed_write(rt: HostRuntime) -> Result<(), Fail> {
-    let alloc = rt.alloc();
-    for (source, call, kept, code, text) in &WRITES {
-        let mut page = failing_page(alloc, *call, *kept)?;
-        let mut shelf = failing_shelf(alloc, source)?;
-        let found = code_of(alloc, &["run", "a.t"], &mut shelf, &mut page)?;
-        same_number(&rt, found, *code, text);
-        // The next read is the second one, and the next write the first after that which failed.
-        holds(
-            &rt,
-            shelf.read(alloc, "a.t", 9).err() == Some(FileRefusal::Failed),
-            text,
-        );
-        holds(
-            &rt,
-            page.write(alloc, b"!") == Err(WriteRefusal::Failed),
-            text,
-        );
-        same_bytes(&rt, page.text(alloc)?.as_slice(), text, "run");
+    for row in &WRITES {
+        expect(&rt, row)?;
     }
     Ok(())
 }
 
 #[test]
 fn a_failed_read_is_told(rt: HostRuntime) -> Result<(), Fail> {
-    let alloc = rt.alloc();
-    let failing = vec![in alloc; 1u64, 2]?;
-    let mut shelf = Shelf::new(alloc, contents(alloc, "a.t", SOURCE)?, failing);
-    let mut page = Page::new(alloc, vec![in alloc; Failure { call: 2, kept: 0 }]?);
-    let found = code_of(alloc, &["run", "a.t"], &mut shelf, &mut page)?;
-    same_number(&rt, found, 14, "a read that fails");
-    holds(
-        &rt,
-        shelf.read(alloc, "a.t", 9).err() == Some(FileRefusal::Failed),
-        "one read",
-    );
-    holds(
-        &rt,
-        page.write(alloc, b"!") == Err(WriteRefusal::Failed),
-        "one write",
-    );
-    let text = page.text(alloc)?;
-    same_bytes(
-        &rt,
-        text.as_slice(),
-        "read fault: source\n",
-        "a read that fails",
-    );
-    Ok(())
-}
-
-// A file of blanks without an end, and how many bytes were last read of it at most.
-#[derive(Drop)]
-struct Endless {
-    most: usize,
-}
-
-impl Files for Endless {
-    ghost use Rattle.std.specs.Prelude.{None};
-
-    ghost held = { λ _. None };
-
-    ghost asked = { λ _. None };
-
-    ghost faults = { λ _. 0 };
-
-    ghost greatest = { None };
-
-    fn read(&mut self, alloc: Global, _name: &str, most: usize) -> Result<Bytes, FileRefusal> {
-        self.most = most;
-        let items = vec![in alloc; b' '; most]?;
-        Ok(Text { items })
+    for row in &READS {
+        expect(&rt, row)?;
     }
-}
-
-#[test]
-fn one_byte_past_the_limit_is_read(rt: HostRuntime) -> Result<(), Fail> {
-    let alloc = rt.alloc();
-    let mut endless = Endless { most: 0 };
-    let mut page = Page::new(alloc, Vec::new(alloc));
-    let found = code_of(alloc, &["run", "a.t"], &mut endless, &mut page)?;
-    same_number(&rt, found, 13, "no end");
-    same_number(&rt, endless.most as u64, 1_048_577, "no end");
     Ok(())
 }

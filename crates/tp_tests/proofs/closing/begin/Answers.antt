@@ -5,7 +5,7 @@ use Rattle.tp_inputs.specs.Read.{inputs_of}
 use Rattle.tp_scene.specs.Pick.{Setting}
 use Rattle.tp_scene.specs.Laws.{IsSound}
 use Rattle.tp_step.specs.Answers.{moment_of}
-use Rattle.tp_tests.proofs.steps.begin.Goals as goal
+use Rattle.tp_tests.proofs.closing.begin.Goals as goal
 
 pub returns-clause-sound : goal.returns-clause-sound
 returns-clause-sound c =
