@@ -1,5 +1,5 @@
 // What a store does that no run shows: facts that are noted into room that was made, and a list that is kept whole.
-ghost use Rattle.std.specs.Prelude.{◌≡◌, ◌∷◌, [], IfOk, false};
+ghost use Rattle.std.specs.Prelude.{◌≡◌, ◌∷◌, [], length, IfOk, false};
 ghost use Rattle.tp_store.specs.Known.{global_variable};
 
 use crate::expected::holds;
@@ -20,7 +20,9 @@ fn one_variable(alloc: Global) -> Result<Store, NoMemory>
 
 // A place of it.
 fn place(alloc: Global, at: &[u32]) -> Result<Path, NoMemory>
-    ensures { IfOk result (λ path. path.var ≡ record { number = 0; lasting = false }) }
+    ensures variable { IfOk result (λ path.
+        path.var ≡ record { number = 0; lasting = false }) }
+    ensures indices { IfOk result (λ path. length path.at ≡ length at.now) }
 {
     let mut indices = Indices::new(alloc);
     indices.items.extend_from_slice(at)?;
