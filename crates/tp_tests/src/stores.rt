@@ -1,12 +1,12 @@
-// What a store does that no run shows: facts that are noted into room that was made, and a list that is kept whole.
-ghost use Rattle.std.specs.Prelude.{◌≡◌, ◌∷◌, [], length, IfOk, false};
+// What a store does that no run shows: a list that is kept whole.
+ghost use Rattle.std.specs.Prelude.{◌≡◌, ◌∷◌, [], IfOk, false};
 ghost use Rattle.tp_store.specs.Known.{global_variable};
 
 use crate::expected::holds;
 use std::alloc::Global;
 use std::test::Fail;
-use tp_store::{Noted, Store};
-use tp_value::{Globals, Indices, Items, NoMemory, Path, Shape, Text, Value, VarId};
+use tp_store::Store;
+use tp_value::{Globals, Indices, Items, NoMemory, Path, Text, Value, VarId};
 
 // The state variable A alone.
 fn one_variable(alloc: Global) -> Result<Store, NoMemory>
@@ -20,9 +20,7 @@ fn one_variable(alloc: Global) -> Result<Store, NoMemory>
 
 // A place of it.
 fn place(alloc: Global, at: &[u32]) -> Result<Path, NoMemory>
-    ensures variable { IfOk result (λ path.
-        path.var ≡ record { number = 0; lasting = false }) }
-    ensures indices { IfOk result (λ path. length path.at ≡ length at.now) }
+    ensures { IfOk result (λ path. path.var ≡ record { number = 0; lasting = false }) }
 {
     let mut indices = Indices::new(alloc);
     indices.items.extend_from_slice(at)?;
@@ -31,23 +29,6 @@ fn place(alloc: Global, at: &[u32]) -> Result<Path, NoMemory>
         lasting: false,
     };
     Ok(Path { var, at: indices })
-}
-
-#[test]
-fn facts_are_noted(rt: HostRuntime) -> Result<(), Fail> {
-    let mut store = one_variable(rt.alloc())?;
-    let list = place(rt.alloc(), &[])?;
-    let item = place(rt.alloc(), &[1])?;
-    store.reserve(8, 1)?;
-    let noted = [
-        store.note(&list, Shape::Items(2)),
-        store.note(&item, Shape::Num(7)),
-        store.note(&item, Shape::Num(7)),
-        store.note(&item, Shape::Num(8)),
-    ];
-    let expected = [Noted::New, Noted::New, Noted::Kept, Noted::Clash];
-    holds(&rt, noted == expected, "what became of each fact");
-    Ok(())
 }
 
 #[test]
