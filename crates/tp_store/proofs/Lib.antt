@@ -8,6 +8,7 @@ pub mod Adding
 pub mod Routes
 pub mod Trees
 pub mod Ways
+pub mod Room
 pub mod FactMapLemmas
 pub mod Parts
 pub mod Kept

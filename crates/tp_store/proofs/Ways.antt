@@ -16,7 +16,7 @@ use Rattle.tp_store.specs.declared.nodes.Node.{Node}
 use Rattle.tp_store.specs.FactMap.{lacks_item, outer_path}
 use Rattle.tp_store.specs.Facts.{has_item, excludes, kept_shape, is_excluded}
 use Rattle.tp_store.specs.Known.{NoClash}
-use Rattle.tp_store.specs.Nodes.{same_edge, edge, child, node_or_none, node_from, routes, facts_along, shape_among, shape_found, beyond_among, with_node, way_of, AreBeyond, AreNarrow, IsRooted, lacks_way, lacks_below, lacks_path, room_for}
+use Rattle.tp_store.specs.Nodes.{same_edge, edge, child, node_or_none, node_from, routes, facts_along, shape_among, shape_found, beyond_among, with_node, way_of, AreBeyond, AreNarrow, IsRooted, lacks_way, lacks_below, lacks_path}
 use Rattle.tp_store.proofs.Members.{In}
 use Rattle.tp_store.proofs.FactMapLemmas.{excluded_at, excluded_here, none_excludes}
 use Rattle.tp_store.proofs.Routes.{child_found, child_there, node_back, node_more, length_of_routes}
@@ -353,9 +353,3 @@ take_long (x ∷ xs) (suc i) h = ap suc (take_long xs i (omega arith))
 
 pub next_item : (fs : List Fact) (i : ℕ) (f : Fact) → i < length fs → f ≡ get_or fs i f → take (i + 1) fs ≡ take i fs ++ f ∷ []
 next_item fs i f l h = let m : i + 1 ≡ suc i = omega arith in ap (λ n. take n fs) m ∙ take-suc fs i f l ∙ ap (λ x. take i fs ++ x ∷ []) (sym h)
-
--- the room for the facts that are left
-pub room_next : (fs : List Fact) (i : ℕ) (f : Fact) → i < length fs → f ≡ get_or fs i f → room_for (drop i fs) ≡ suc (length f.path.at) + room_for (drop (i + 1) fs)
-room_next fs i f l h =
-    let m : i + 1 ≡ suc i = omega arith in
-    ap room_for (drop-cons fs i f l ∙ ap₂ (λ x k. x ∷ drop k fs) (sym h) (sym m))

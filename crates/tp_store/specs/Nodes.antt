@@ -228,7 +228,30 @@ abbrev pub ArePlaced : (count : ℕ) → List Fact → Type 0
 ArePlaced n [] = Unit {0}
 ArePlaced n (f ∷ fs) = (f.path.var.number < n) × ArePlaced n fs
 
--- how many nodes the paths of facts take at most
+-- how many steps of the second way follow those that it shares with the first
+abbrev pub steps_behind : (first second : List ℕ) → ℕ
+steps_behind [] ks = length ks
+steps_behind (j ∷ js) [] = 0
+steps_behind (j ∷ js) (k ∷ ks) = if eqb j k then steps_behind js ks else suc (length ks)
+
+-- how many nodes the paths of facts take at most, where there are those of this way
+abbrev pub room_behind : List ℕ → List Fact → ℕ
+room_behind way [] = 0
+room_behind way (f ∷ fs) = steps_behind way (way_of f.path) + room_behind (way_of f.path) fs
+
+-- the same, where none is known to be there
 abbrev pub room_for : List Fact → ℕ
-room_for [] = 0
-room_for (f ∷ fs) = suc (length f.path.at) + room_for fs
+room_for fs = room_behind [] fs
+
+abbrev pub missing_behind : Option ℕ → (further : ℕ) → (ℕ → ℕ) → ℕ
+missing_behind None further f = suc further
+missing_behind (Some n) further f = f n
+
+-- how many of the nodes to which these indices lead aren't there
+abbrev pub missing_nodes : List Edge → List ℕ → ℕ → ℕ
+missing_nodes es [] n = 0
+missing_nodes es (k ∷ ks) n = missing_behind (child es n k) (length ks) (missing_nodes es ks)
+
+-- there is a node to which these indices lead
+abbrev pub HasNode : List Edge → List ℕ → Type 0
+HasNode es ks = (n : ℕ) × node_from es ks 0 ≡ Some n

@@ -5,7 +5,7 @@ ghost use Rattle.std.specs.Cmp.Rules.{hashing};
 ghost use Rattle.std.specs.List.{IsDistinct};
 ghost use Rattle.indexmap.specs.IndexMap.{spare};
 ghost use Rattle.std.proofs.Common.{rules};
-ghost use Rattle.tp_store.specs.Nodes.{edge_number, bare_node, edges_in, nodes_in, child, same_edge, node_from, routes, path_of, way_of, shape_among, shape_found, beyond_among, item_shape, lacks_way, lacks_path, with_node, with_shape_at, facts_in_tree, route_to, index_behind, IsTree, HasMoreNodes, IsRaised};
+ghost use Rattle.tp_store.specs.Nodes.{edge_number, bare_node, edges_in, nodes_in, child, same_edge, node_from, routes, path_of, way_of, shape_among, shape_found, beyond_among, item_shape, lacks_way, lacks_path, with_node, with_shape_at, facts_in_tree, route_to, index_behind, missing_nodes, IsTree, HasMoreNodes, IsRaised};
 ghost use Rattle.tp_store.specs.Facts.{fact};
 
 use crate::clash::lacks_item;
@@ -287,8 +287,11 @@ impl Nodes {
         requires narrow { index < 2 ^ 32 }
         ensures tree { IsTree self.new }
         ensures more { HasMoreNodes self.old self.new }
-        ensures room { spare self.old.below ≤ spare self.new.below + 1 }
-        ensures succeeds { 0 < spare self.old.below → IsOk result }
+        ensures room { spare self.old.below
+            ≤ spare self.new.below + missing_nodes (edges_in self.old) (index ∷ []) node }
+        ensures succeeds { missing_nodes (edges_in self.old) (index ∷ []) node ≤ spare self.old.below
+            → IsOk result }
+        ensures there { (n : ℕ) → child (edges_in self.old) node index ≡ Some n → self.new ≡ self.old }
         ensures unique { IfOk result (λ n. IsDistinct same_edge (edges_in self.new)) }
         ensures within { IfOk result (λ n. n < length (nodes_in self.new)) }
         ensures child { IfOk result (λ n. child (edges_in self.new) node index ≡ Some n) }
@@ -307,8 +310,11 @@ impl Nodes {
         requires placed { number < length self.old.places.items }
         ensures tree { IsTree self.new }
         ensures more { HasMoreNodes self.old self.new }
-        ensures room { spare self.old.below ≤ spare self.new.below + 1 }
-        ensures succeeds { 0 < spare self.old.below → IsOk result }
+        ensures room { spare self.old.below
+            ≤ spare self.new.below + missing_nodes (edges_in self.old) (number ∷ []) 0 }
+        ensures succeeds { missing_nodes (edges_in self.old) (number ∷ []) 0 ≤ spare self.old.below
+            → IsOk result }
+        ensures there { (n : ℕ) → child (edges_in self.old) 0 number ≡ Some n → self.new ≡ self.old }
         ensures unique { IfOk result (λ n. IsDistinct same_edge (edges_in self.new)) }
         ensures within { IfOk result (λ n. n < length (nodes_in self.new)) }
         ensures child { IfOk result (λ n. child (edges_in self.new) 0 number ≡ Some n) }
@@ -333,8 +339,10 @@ impl Nodes {
         requires placed { path.now.var.number < length self.old.places.items }
         ensures tree { IsTree self.new }
         ensures more { HasMoreNodes self.old self.new }
-        ensures room { spare self.old.below ≤ spare self.new.below + suc (length path.now.at) }
-        ensures succeeds { length path.now.at < spare self.old.below → IsOk result }
+        ensures room { spare self.old.below
+            ≤ spare self.new.below + missing_nodes (edges_in self.old) (way_of path.now) 0 }
+        ensures succeeds { missing_nodes (edges_in self.old) (way_of path.now) 0 ≤ spare self.old.below
+            → IsOk result }
         ensures unique { IfOk result (λ n. IsDistinct same_edge (edges_in self.new)) }
         ensures way { IfOk result (λ n.
             node_from (edges_in self.new) (way_of path.now) 0 ≡ Some n) }

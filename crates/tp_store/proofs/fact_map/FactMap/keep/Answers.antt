@@ -2,7 +2,8 @@ use Rattle.std.proofs.Common.{◌≡◌, ◌<◌, ◌^◌, ◌++◌, ◌∷◌, 
 use Rattle.tp_store.specs.Facts.{fact, kept_shape}
 use Rattle.tp_store.specs.Known.{NoClash, deepest}
 use Rattle.tp_store.specs.FactMap.{FactsOfKind}
-use Rattle.tp_store.specs.Nodes.{facts_in_tree}
+use Rattle.tp_store.specs.Nodes.{edges_in, way_of, facts_in_tree}
+use Rattle.tp_store.proofs.Room.{missing_most}
 use Rattle.tp_store.proofs.Adding.{new_added, NoClash-adds}
 use Rattle.tp_store.proofs.FactMapLemmas.{deepest-append}
 use Rattle.tp_store.proofs.Growth.{deepest_same}
@@ -17,6 +18,12 @@ all_grown c =
     let own : NoClash c.args.self.now.facts = subst N c.self.view_is c.self.invariant.0 in
     grown c.args.self.now c.self.inside.lasting c.self.inside.nodes c.keep_shape.new.nodes _ _ f.path.var (f ∷ []) c.self.view_is c.requires.kind (refl, tt)
     (NoClash-adds c.args.self.now.facts (f ∷ []) (f ∷ []) (new_added c.args.self.now.facts f c.requires.new) own (refl, refl, tt)) c.keep_shape.ensures.kept
+
+pub keep_shape-requires-clause-room : goal.keep_shape-requires-clause-room
+keep_shape-requires-clause-room c =
+    let most = missing_most (edges_in c.self.inside.nodes) (way_of c.args.path.now) 0 in
+    let room = ap (λ (m : FactsOfKind). m.spare) c.self.view_is in
+    omega (arith, most, room, c.requires.room)
 
 pub invariant_of-self : goal.invariant_of-self
 invariant_of-self c =
@@ -41,3 +48,9 @@ returns-clause-apart c = (all_grown c).is
 pub returns-clause-kept : goal.returns-clause-kept
 returns-clause-kept c = λ p.
     (all_grown c).same p ∙ ap (λ (m : FactsOfKind). kept_shape (m.facts ++ fact c.args.path.now c.args.shape ∷ []) p) c.self.view_is
+
+pub returns-clause-room : goal.returns-clause-room
+returns-clause-room c =
+    let most = missing_most (edges_in c.self.inside.nodes) (way_of c.args.path.now) 0 in
+    let room = ap (λ (m : FactsOfKind). m.spare) c.self.view_is in
+    omega (arith, most, room, c.keep_shape.ensures.room)
