@@ -16,7 +16,7 @@ ghost use Rattle.tp_store.specs.Stock.{contents_in};
 
 use crate::board::Board;
 use std::sync::ledger::Ledger;
-use tp_step::{Course, Ending, Scene, Setting, Steps, Tally, Tried, try_item};
+use tp_step::{Ending, Scene, Setting, Steps, Strategy, Tally, Tried, try_item};
 use tp_store::Store;
 use tp_value::NoMemory;
 
@@ -35,10 +35,10 @@ fn count_pick(tried: &Tried, left: &mut u64, tally: &mut Tally)
     }
 }
 
-/// How a closure goes on, and its board.
+/// The strategy of a closure, and its board.
 #[derive(Drop)]
 struct Agenda {
-    course: Course,
+    strategy: Strategy,
     board: Board,
 }
 
@@ -64,23 +64,23 @@ fn try_ready<L: Ledger>(
     ensures kept { IsWellKept scene.new }
     ensures closes { IfOk result
         (ClosesWith (setting_of setting.now) (moment_of scene.old (contents_in store.old))
-        (moment_of scene.new (contents_in store.new)) agenda.old.course.order agenda.old.course.room
-        tally.old.picks tally.new.picks tally.new.waits.items.items tally.new.rests
-        steps.old steps.new) }
+        (moment_of scene.new (contents_in store.new)) agenda.old.strategy.order
+        agenda.old.strategy.room tally.old.picks tally.new.picks tally.new.waits.items.items
+        tally.new.rests steps.old steps.new) }
     ensures err { OnErr result
         ((left : ℕ)
         × Made (setting_of setting.now) (moment_of scene.old (contents_in store.old))
-        (moment_of scene.new (contents_in store.new)) agenda.old.course.room left tally.old.picks
+        (moment_of scene.new (contents_in store.new)) agenda.old.strategy.room left tally.old.picks
         tally.new.picks) }
 {
-    'tries: while let Some(item) = agenda.board.next(&mut agenda.course.order) {
+    'tries: while let Some(item) = agenda.board.next(&mut agenda.strategy.order) {
         // its place is taken before it is tried, so that nothing that was done goes unrecorded
         tally.picks.items.push(item)?;
-        let Ok(tried) = try_item(scene, item, store, setting, agenda.course.room, steps) else {
+        let Ok(tried) = try_item(scene, item, store, setting, agenda.strategy.room, steps) else {
             tally.picks.items.pop();
             return Err(NoMemory);
         };
-        count_pick(&tried, &mut agenda.course.room, tally);
+        count_pick(&tried, &mut agenda.strategy.room, tally);
         match agenda.board.take_in(scene, item, tried, tally)? {
             Some(ending) => return Ok(ending),
             None => {}
@@ -92,13 +92,13 @@ fn try_ready<L: Ledger>(
 /// Closes a state by an agenda of the items that are ready: an item is tried when it is new, and again when a cell is decided that it
 /// waits for; one that rests isn't tried again. So no try is repeated in vain. Of the ready items order `First` tries the one with the
 /// least number, order `Last` the one with the greatest, and a seed the one at the place that it chooses among them by number. At most
-/// `course.room` items are reduced. Their numbers are appended to the tally's picks, in order, and each wait and each rest is recorded
+/// `strategy.room` items are reduced. Their numbers are appended to the tally's picks, in order, and each wait and each rest is recorded
 /// in the tally, which has none of these before; scene and store stand where these picks lead, also where memory ends.
 pub fn close_by_agenda<L: Ledger>(
     scene: &mut Scene,
     store: &mut Store,
     setting: &Setting,
-    course: Course,
+    strategy: Strategy,
     tally: &mut Tally,
     steps: &mut Steps<L>,
 ) -> Result<Ending, NoMemory>
@@ -113,24 +113,24 @@ pub fn close_by_agenda<L: Ledger>(
         → IsSound (setting_of setting.now) kinds (moment_of scene.new (contents_in store.new))) }
     ensures kept { IsWellKept scene.new }
     ensures closes { IfOk result
-        (ClosureAnswers (setting_of setting.now) course.room
+        (ClosureAnswers (setting_of setting.now) strategy.room
         (moment_of scene.old (contents_in store.old)) (moment_of scene.new (contents_in store.new))
         tally.old.picks tally.new.picks) }
     ensures err { OnErr result
         ((left : ℕ)
         × Made (setting_of setting.now) (moment_of scene.old (contents_in store.old))
-        (moment_of scene.new (contents_in store.new)) course.room left tally.old.picks
+        (moment_of scene.new (contents_in store.new)) strategy.room left tally.old.picks
         tally.new.picks) }
     ensures order { IfOk result
-        (FollowsAgenda (setting_of setting.now) course.order course.room
+        (FollowsAgenda (setting_of setting.now) strategy.order strategy.room
         (moment_of scene.old (contents_in store.old)) (moment_of scene.new (contents_in store.new))
         tally.old.picks tally.new.picks tally.new.waits.items.items tally.new.rests) }
     ensures commutes { IfOk result
-        (ClosureCommutes (setting_of setting.now) course.room
+        (ClosureCommutes (setting_of setting.now) strategy.room
         (moment_of scene.old (contents_in store.old)) (moment_of scene.new (contents_in store.new))
         tally.old.picks tally.new.picks) }
     ensures room { IfOk result
-        (ClosureKeepsRoom (setting_of setting.now) course.room
+        (ClosureKeepsRoom (setting_of setting.now) strategy.room
         (moment_of scene.new (contents_in store.new)) tally.old.picks tally.new.picks) }
     ensures thrifty { IfOk result (λ ending.
         IsThrifty tally.new.waits.items.items tally.new.rests) }
@@ -142,6 +142,6 @@ pub fn close_by_agenda<L: Ledger>(
         tally.new.waits.items.items tally.new.rests) }
 {
     let board = Board::begin(setting.alloc, scene)?;
-    let mut agenda = Agenda { course, board };
+    let mut agenda = Agenda { strategy, board };
     try_ready(scene, store, setting, &mut agenda, tally, steps)
 }

@@ -20,7 +20,7 @@ use Rattle.tp_decide.specs.declared.counting.CountKind.TheVariants as count
 use Rattle.tp_decide.specs.declared.decision.Decision.{Decision}
 use Rattle.tp_decide.specs.declared.sides.Target.{Target}
 use Rattle.tp_decide.specs.declared.sides.Target.TheVariants as target
-use Rattle.tp_decide.specs.declared.sides.Side.{Side}
+use Rattle.tp_decide.specs.declared.sides.EquationSide.{EquationSide}
 use Rattle.tp_decide.specs.declared.found.SharedOutcome.{SharedOutcome}
 use Rattle.tp_decide.specs.declared.found.SharedOutcome.TheVariants as shared
 use Rattle.tp_decide.specs.declared.phrase.Values.{Values}
@@ -72,7 +72,7 @@ target_in (target.Length p) = row.length_at p
 abbrev pub option_target : Option Target → Option row.Target
 option_target o = option_map target_in o
 
-abbrev pub side_found : Side → row.SideOf
+abbrev pub side_found : EquationSide → row.SideOf
 side_found s =
     record { placed = s.placed; target = option_target s.target; found = outcome_tree s.found }
 

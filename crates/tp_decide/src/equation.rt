@@ -20,7 +20,7 @@ ghost use Rattle.tp_decide.specs.Fits.{ArePathsOfVariables, IsTargetOf, SetsVari
 use crate::decision::{Decision, nothing};
 use crate::setting::Setting;
 use crate::sharing::equate_places;
-use crate::sides::{Side, Target, path_of, side_of, side_with};
+use crate::sides::{EquationSide, Target, path_of, side_of, side_with};
 use std::alloc::Global;
 use std::rc::Rc;
 use tp_eval::{Outcome, is_place};
@@ -160,19 +160,19 @@ fn value_on_right(target: Option<Target>, left: Outcome, value: Value) -> Decisi
 }
 
 // What becomes of the equation of two sides by what is found of them.
-fn equate_values(left: Side, right: Side) -> Decision
+fn equate_values(left: EquationSide, right: EquationSide) -> Decision
     ensures outcome { (facts : List Fact) (n : row.Numbers)
         → decided_outcome facts n result
         ≡ row.equate_values facts (side_found left) (side_found right) }
     ensures variables { (xs : List Variable) → IsTargetOf xs left.target
         → IsTargetOf xs right.target → SetsVariables xs result }
 {
-    let Side {
+    let EquationSide {
         placed: is_left_placed,
         target: left_target,
         found: left_found,
     } = left;
-    let Side {
+    let EquationSide {
         placed: is_right_placed,
         target: right_target,
         found: right_found,
@@ -218,7 +218,7 @@ fn are_one_value(first: &Outcome, second: &Outcome) -> bool
 }
 
 // Whether both sides are known already by the same value, so that there is nothing to set.
-fn are_equal(left: &Side, right: &Side) -> bool
+fn are_equal(left: &EquationSide, right: &EquationSide) -> bool
     ensures { IsTrue result → AreEqual (side_found left.now) (side_found right.now) }
 {
     if sets_length(&left.target) {
@@ -278,7 +278,7 @@ fn readable_value(expr: &Expr) -> Option<&Rc<Value>>
 }
 
 // The path of the side, where it can be set and waits.
-fn waiting_path(side: &Side) -> Option<&Path>
+fn waiting_path(side: &EquationSide) -> Option<&Path>
     ensures outcome { MatchOption result (Unit {0}) (λ p. Awaits (side_found side.now) p.now) }
     ensures variables { (xs : List Variable) → IsTargetOf xs side.now.target
         → MatchOption result (Unit {0}) (λ p. IsVariableOf xs p.now.var) }
@@ -293,7 +293,7 @@ fn waiting_path(side: &Side) -> Option<&Path>
 }
 
 // A value that is known as a whole is handed on to a place that waits for it, and not copied.
-fn hand_on(left: &Side, right: &Expr) -> Result<Option<Decision>, NoMemory>
+fn hand_on(left: &EquationSide, right: &Expr) -> Result<Option<Decision>, NoMemory>
     ensures outcome { IfOk result (λ given. MatchOption given (Unit {0}) (λ d.
         (facts : List Fact) (n : row.Numbers) (defs : List Definition) (env : List BindingTree)
         → decided_outcome facts n d

@@ -28,7 +28,7 @@ pub enum Target {
 
 /// A side of an equation: whether it is a place or the size of one, what it can set, and what is found.
 #[derive(Drop)]
-pub struct Side {
+pub struct EquationSide {
     pub placed: bool,
     pub target: Option<Target>,
     pub found: Outcome,
@@ -106,7 +106,7 @@ fn found_at(path: &Path, store: &Store) -> Result<Outcome, NoMemory>
 }
 
 // The side that is the place with this path.
-fn side_at(path: Path, store: &Store) -> Result<Side, NoMemory>
+fn side_at(path: Path, store: &Store) -> Result<EquationSide, NoMemory>
     requires { IsVariableOf store.now.variables path.var }
     ensures outcome { IfOk result (λ s.
         side_found s
@@ -118,7 +118,7 @@ fn side_at(path: Path, store: &Store) -> Result<Side, NoMemory>
     ensures variables { IfOk result (λ s. IsTargetOf store.now.variables s.target) }
 {
     let found = found_at(&path, store)?;
-    Ok(Side {
+    Ok(EquationSide {
         placed: true,
         target: Some(Target::Value(path)),
         found,
@@ -132,7 +132,7 @@ pub fn side_of(
     env: &Env,
     store: &Store,
     defs: &Defs,
-) -> Result<Side, NoMemory>
+) -> Result<EquationSide, NoMemory>
     requires fits { ExprFitsStore (definitions_of defs.now) store.now.variables (expr_tree expr.now)
         (bindings_of env.now) }
     ensures outcome { IfOk result (λ s.
@@ -148,7 +148,7 @@ pub fn side_of(
                 return Ok(side);
             }
             PlaceOutcome::Other(found) => {
-                return Ok(Side {
+                return Ok(EquationSide {
                     placed: true,
                     target: None,
                     found,
@@ -164,7 +164,7 @@ pub fn side_of(
         None => None,
     };
     let found = eval(alloc, expr, env, store, defs)?;
-    Ok(Side {
+    Ok(EquationSide {
         placed: is_placed(expr),
         target,
         found,
@@ -172,12 +172,12 @@ pub fn side_of(
 }
 
 /// A side that has this value, which was found before.
-pub fn side_with(alloc: Global, value: &Value) -> Result<Side, NoMemory>
+pub fn side_with(alloc: Global, value: &Value) -> Result<EquationSide, NoMemory>
     ensures outcome { IfOk result (λ s. side_found s ≡ row.side_with (tree value.now)) }
     ensures variables { IfOk result (λ s. s.target ≡ None) }
 {
     let value = value.copy(alloc)?;
-    Ok(Side {
+    Ok(EquationSide {
         placed: false,
         target: None,
         found: Outcome::Value(value),

@@ -12,7 +12,7 @@ use crate::evaluate::{evaluate, find_place};
 use crate::halt::Halt;
 use crate::lookup::Lookup;
 use crate::outcome::{Outcome, PlaceOutcome};
-use crate::places::{Place, copy_element};
+use crate::places::{PlaceFound, copy_element};
 use crate::written::written_item;
 use std::alloc::Global;
 use tp_kernel::{Defs, Env, Expr};
@@ -69,13 +69,13 @@ pub fn eval(
 }
 
 // A path, or the element of a known value.
-fn path_or_value(alloc: Global, place: Place, store: &Store) -> Result<PlaceOutcome, NoMemory>
+fn path_or_value(alloc: Global, place: PlaceFound, store: &Store) -> Result<PlaceOutcome, NoMemory>
     ensures { IfOk result (λ o.
         place_outcome_of o ≡ place_reached store.now.facts (reaches (place_in place) 0)) }
 {
     match place {
-        Place::At(path) => Ok(PlaceOutcome::Place(path)),
-        Place::Inside(value, at) => {
+        PlaceFound::At(path) => Ok(PlaceOutcome::Place(path)),
+        PlaceFound::Inside(value, at) => {
             let answer = copy_element(alloc, &value, at.items.as_slice());
             let other = settled(answer)?;
             Ok(PlaceOutcome::Other(other))

@@ -16,7 +16,8 @@ use crate::lookup::Lookup;
 use crate::operand::{bind_value, bound_value, kept_value};
 use crate::operate::{item_of, operate};
 use crate::places::{
-    Place, bind_place, farther, index_from, index_of, length_of, named, size_at, value_at, whole,
+    PlaceFound, bind_place, farther, index_from, index_of, length_of, named, size_at, value_at,
+    whole,
 };
 use std::alloc::Global;
 use tp_kernel::{Binding, Def, Env, Expr, Exprs, FaultKind, LimitKind, Op2, is_upper};
@@ -335,7 +336,12 @@ fn index_at(levels: u32, expr: &Expr, lookup: &Lookup, calls: &mut u32) -> Resul
 
 // What a name followed by indices is, where so many levels are left. Each index is looked at before the next is evaluated.
 #[cycle(evaluate)]
-pub fn find_place(levels: u32, expr: &Expr, lookup: &Lookup, calls: &mut u32) -> Result<Place, Halt>
+pub fn find_place(
+    levels: u32,
+    expr: &Expr,
+    lookup: &Lookup,
+    calls: &mut u32,
+) -> Result<PlaceFound, Halt>
     ensures { AnswersReached place_in result calls.new
         (place_at lookup.now levels (expr_tree expr.now) calls.old) }
 {

@@ -20,30 +20,30 @@ use tp_value::{INDEX_LIMIT, Indices, Number, PATH_LIMIT, Path, Shape, Value, Var
 
 /// What a name followed by indices is: a path, or an element of a known value at these indices.
 #[derive(Drop)]
-pub enum Place {
+pub enum PlaceFound {
     At(Path),
     Inside(Rc<Value>, Indices),
 }
 
 /// The variable itself.
-pub fn whole(alloc: Global, var: VarId) -> Place
+pub fn whole(alloc: Global, var: VarId) -> PlaceFound
     ensures { place_in result ≡ at_path (record { var = var; at = [] }) }
 {
     let at = Indices::new(alloc);
-    Place::At(Path { var, at })
+    PlaceFound::At(Path { var, at })
 }
 
-fn place_of_binding(alloc: Global, binding: &Binding) -> Result<Place, Halt>
+fn place_of_binding(alloc: Global, binding: &Binding) -> Result<PlaceFound, Halt>
     ensures { AnswersEvaluation place_in result (bound_place (Some (binding_of binding.now))) }
 {
     match binding {
-        Binding::Place(path) => Ok(Place::At(path.copy()?)),
-        Binding::Known(value) => Ok(Place::Inside(value.clone()?, Indices::new(alloc))),
+        Binding::Place(path) => Ok(PlaceFound::At(path.copy()?)),
+        Binding::Known(value) => Ok(PlaceFound::Inside(value.clone()?, Indices::new(alloc))),
     }
 }
 
 /// What the bound name with this number is.
-pub fn named(alloc: Global, env: &Env, number: u32) -> Result<Place, Halt>
+pub fn named(alloc: Global, env: &Env, number: u32) -> Result<PlaceFound, Halt>
     ensures { AnswersEvaluation place_in result
         (bound_place (slice_get (bindings_of env.now) number)) }
 {
@@ -89,17 +89,17 @@ pub fn farther_path(mut path: Path, index: u32) -> Result<Path, Halt>
 }
 
 /// The place with one index more.
-pub fn farther(place: Place, index: u32) -> Result<Place, Halt>
+pub fn farther(place: PlaceFound, index: u32) -> Result<PlaceFound, Halt>
     ensures { AnswersEvaluation place_in result (farther (place_in place) index) }
 {
     match place {
-        Place::At(path) => {
+        PlaceFound::At(path) => {
             let path = farther_path(path, index)?;
-            Ok(Place::At(path))
+            Ok(PlaceFound::At(path))
         }
-        Place::Inside(value, mut at) => {
+        PlaceFound::Inside(value, mut at) => {
             at.items.push(index)?;
-            Ok(Place::Inside(value, at))
+            Ok(PlaceFound::Inside(value, at))
         }
     }
 }
@@ -129,12 +129,12 @@ pub fn copy_element(alloc: Global, value: &Value, at: &[u32]) -> Result<Value, H
 }
 
 /// What a parameter is bound to that is given this place.
-pub fn bind_place(alloc: Global, place: Place) -> Result<Binding, Halt>
+pub fn bind_place(alloc: Global, place: PlaceFound) -> Result<Binding, Halt>
     ensures { AnswersEvaluation binding_of result (bind_place (place_in place)) }
 {
     match place {
-        Place::At(path) => Ok(Binding::Place(path)),
-        Place::Inside(value, at) => {
+        PlaceFound::At(path) => Ok(Binding::Place(path)),
+        PlaceFound::Inside(value, at) => {
             if at.items.is_empty() {
                 return Ok(Binding::Known(value));
             }
@@ -156,15 +156,15 @@ fn whole_value(known: Known) -> Result<Value, Halt>
 }
 
 /// The value of a place.
-pub fn value_at(alloc: Global, place: &Place, store: &Store) -> Result<Value, Halt>
+pub fn value_at(alloc: Global, place: &PlaceFound, store: &Store) -> Result<Value, Halt>
     ensures { AnswersEvaluation tree result (value_at store.now.facts (place_in place.now)) }
 {
     match place {
-        Place::At(path) => {
+        PlaceFound::At(path) => {
             let known = store.full(path)?;
             whole_value(known)
         }
-        Place::Inside(value, at) => copy_element(alloc, value, at.items.as_slice()),
+        PlaceFound::Inside(value, at) => copy_element(alloc, value, at.items.as_slice()),
     }
 }
 
@@ -211,11 +211,11 @@ fn element_length(value: &Value, at: &[u32]) -> Result<Value, Halt>
 }
 
 /// The size of a place, for which its shape is enough.
-pub fn size_at(place: &Place, store: &Store) -> Result<Value, Halt>
+pub fn size_at(place: &PlaceFound, store: &Store) -> Result<Value, Halt>
     ensures { AnswersEvaluation tree result (size_at store.now.facts (place_in place.now)) }
 {
     match place {
-        Place::At(path) => length_at(path, store),
-        Place::Inside(value, at) => element_length(value, at.items.as_slice()),
+        PlaceFound::At(path) => length_at(path, store),
+        PlaceFound::Inside(value, at) => element_length(value, at.items.as_slice()),
     }
 }

@@ -6,7 +6,7 @@ use Rattle.tp_lex.specs.declared.token.Symbol.{Symbol}
 use Rattle.tp_lex.specs.Spelling.{symbol_spelling}
 use Rattle.tp_lex.proofs.SpellingLemmas.{some}
 use Rattle.tp_lex.specs.declared.token.Token.{Token}
-use Rattle.tp_lex.specs.declared.token.Place.{Place}
+use Rattle.tp_lex.specs.declared.token.TextPlace.{TextPlace}
 use Rattle.tp_lex.specs.declared.piece.Piece.{Piece}
 use Rattle.tp_lex.specs.declared.piece.Piece.TheVariants.{Gap, Lexeme, Refused}
 use Rattle.tp_lex.specs.First.{first_piece}
@@ -114,14 +114,14 @@ one_refusal bytes e f (ts, a) (us, b) = let same = (one_reading bytes 0 ts us (F
 pub never_both : NeverBoth
 never_both bytes ts e a (us, b) = let same = (one_reading bytes 0 ts us Whole (Fails e) a b).1 in cc
 
-either_at : (test : Bool) (p q : Place) (n : ℕ) → p.at ≡ n → q.at ≡ n → (cond test p q).at ≡ n
+either_at : (test : Bool) (p q : TextPlace) (n : ℕ) → p.at ≡ n → q.at ≡ n → (cond test p q).at ≡ n
 either_at true p q n e f = e
 either_at false p q n e f = f
 
-after_counts : (p : Place) (b : ℕ) → (place_after p b).at ≡ p.at + 1
+after_counts : (p : TextPlace) (b : ℕ) → (place_after p b).at ≡ p.at + 1
 after_counts p b = either_at (b == 10) _ _ (p.at + 1) refl refl
 
-place_counts : (p : Place) (bytes : List ℕ) → (place_from p bytes).at ≡ p.at + length bytes
+place_counts : (p : TextPlace) (bytes : List ℕ) → (place_from p bytes).at ≡ p.at + length bytes
 place_counts p [] = omega arith
 place_counts p (b ∷ bytes) = let below = place_counts (place_after p b) bytes in let one = after_counts p b in omega arith
 

@@ -5,7 +5,7 @@ use Rattle.std.proofs.lemmas.Bool.Decides.{nat_tests}
 use Rattle.std.proofs.lemmas.Bool.{cases_lt}
 use Rattle.std.proofs.lemmas.List.{take_at, drop_more, take-append-drop}
 use Rattle.std.proofs.lemmas.List.Sums.{sum_by-append, fold-append}
-use Rattle.tp_lex.specs.declared.token.Place.{Place}
+use Rattle.tp_lex.specs.declared.token.TextPlace.{TextPlace}
 use Rattle.tp_lex.specs.declared.token.Kind.{Kind}
 use Rattle.tp_lex.specs.declared.token.Symbol.{Symbol}
 use Rattle.tp_lex.specs.declared.token.Symbol.TheVariants as s
@@ -16,19 +16,19 @@ use Rattle.tp_lex.specs.Pieces.{BeginsPiece, word, upper, lower, number, symbol}
 use Rattle.tp_lex.specs.Place.{place_after, place_from}
 use Rattle.tp_lex.specs.Line.{EndsNoLine, place_along}
 
-same_place : (p q : Place) → p.at ≡ q.at → p.line ≡ q.line → p.column ≡ q.column → p ≡ q
+same_place : (p q : TextPlace) → p.at ≡ q.at → p.line ≡ q.line → p.column ≡ q.column → p ≡ q
 same_place p q a l c =
     let one : p ≡ record { at = q.at; line = p.line; column = p.column } = ap (λ (n : ℕ). record { at = n; line = p.line; column = p.column }) a in
     let two : record { at = q.at; line = p.line; column = p.column } ≡ record { at = q.at; line = q.line; column = p.column } = ap (λ (n : ℕ). record { at = q.at; line = n; column = p.column }) l in
     let three : record { at = q.at; line = q.line; column = p.column } ≡ q = ap (λ (n : ℕ). record { at = q.at; line = q.line; column = n }) c in
     one ∙ (two ∙ three)
 
-pub along_line : (p : Place) (z : List ℕ) → EndsNoLine z → place_from p z ≡ place_along p (length z)
+pub along_line : (p : TextPlace) (z : List ℕ) → EndsNoLine z → place_from p z ≡ place_along p (length z)
 along_line p [] one = same_place p (place_along p 0) (omega arith) refl (omega arith)
 along_line p (b ∷ z) one =
-    let next : Place = record { at = p.at + 1; line = p.line; column = p.column + 1 } in
+    let next : TextPlace = record { at = p.at + 1; line = p.line; column = p.column + 1 } in
     let first : place_after p b ≡ next = ap (λ (t : Bool). cond t (record { at = p.at + 1; line = p.line + 1; column = 1 }) next) one.0 in
-    ap (λ (q : Place). place_from q z) first ∙ (along_line next z one.1
+    ap (λ (q : TextPlace). place_from q z) first ∙ (along_line next z one.1
     ∙ same_place (place_along next (length z)) (place_along p (suc (length z))) (omega arith) refl (omega arith))
 
 none_counted : (b : ℕ) (z : List ℕ) (t : Bool) → (b == 10) ≡ t → (0 + cond t 1 0) + count_by (λ x. x == 10) z ≡ 0 → (count_by (λ x. x == 10) z ≡ 0 → EndsNoLine z) → EndsNoLine (b ∷ z)
@@ -50,14 +50,14 @@ line_none : (z : List ℕ) → EndsNoLine z → count_by (λ x. x == 10) z ≡ 0
 line_none [] one = refl
 line_none (b ∷ z) one = sum_by-append (λ x. cond (x == 10) 1 0) (b ∷ []) z ∙ one_counted b z (b == 10) refl one.0 (line_none z one.1)
 
-counted_at : (p : Place) (b : ℕ) (z : List ℕ) (t : Bool) → (q : Place) → q ≡ cond t (record { at = p.at + 1; line = p.line + 1; column = 1 }) (record { at = p.at + 1; line = p.line; column = p.column + 1 })
+counted_at : (p : TextPlace) (b : ℕ) (z : List ℕ) (t : Bool) → (q : TextPlace) → q ≡ cond t (record { at = p.at + 1; line = p.line + 1; column = 1 }) (record { at = p.at + 1; line = p.line; column = p.column + 1 })
     → (place_from q z).at ≡ q.at + length z → (place_from q z).line ≡ q.line + count_by (λ x. x == 10) z
     → ((place_from q z).at ≡ p.at + suc (length z)) × ((place_from q z).line ≡ p.line + ((0 + cond t 1 0) + count_by (λ x. x == 10) z))
-counted_at p b z true q e at line = let a = ap (λ (x : Place). x.at) e in let l = ap (λ (x : Place). x.line) e in (omega (arith, a, at), omega (arith, l, line))
-counted_at p b z false q e at line = let a = ap (λ (x : Place). x.at) e in let l = ap (λ (x : Place). x.line) e in (omega (arith, a, at), omega (arith, l, line))
+counted_at p b z true q e at line = let a = ap (λ (x : TextPlace). x.at) e in let l = ap (λ (x : TextPlace). x.line) e in (omega (arith, a, at), omega (arith, l, line))
+counted_at p b z false q e at line = let a = ap (λ (x : TextPlace). x.at) e in let l = ap (λ (x : TextPlace). x.line) e in (omega (arith, a, at), omega (arith, l, line))
 
 -- each byte counts, and each line feed
-counted : (p : Place) (z : List ℕ) → ((place_from p z).at ≡ p.at + length z) × ((place_from p z).line ≡ p.line + count_by (λ x. x == 10) z)
+counted : (p : TextPlace) (z : List ℕ) → ((place_from p z).at ≡ p.at + length z) × ((place_from p z).line ≡ p.line + count_by (λ x. x == 10) z)
 counted p [] = (omega arith, omega arith)
 counted p (b ∷ z) =
     let below = counted (place_after p b) z in
@@ -74,12 +74,12 @@ line_shorter z r within one some = elim (cases_lt r (length z)) [
 ]
 
 -- the place behind bytes with a line feed
-pub behind_lines : (p : Place) (z : List ℕ) (r : ℕ) → r < length z → EndsNoLine (drop (length z - r) z) → slice_index z (length z - r - 1) ≡ 10
+pub behind_lines : (p : TextPlace) (z : List ℕ) (r : ℕ) → r < length z → EndsNoLine (drop (length z - r) z) → slice_index z (length z - r - 1) ≡ 10
     → record { at = p.at + length z; line = p.line + count_by (λ x. x == 10) z; column = 1 + r } ≡ place_from p z
 behind_lines p z r less one feed =
     let i : ℕ = length z - r - 1 in
-    let q : Place = place_from p (take i z) in
-    let next : Place = record { at = q.at + 1; line = q.line + 1; column = 1 } in
+    let q : TextPlace = place_from p (take i z) in
+    let next : TextPlace = record { at = q.at + 1; line = q.line + 1; column = 1 } in
     let inside : i < length z = omega (arith, less) in
     let later : i + 1 ≡ length z - r = omega (arith, less) in
     let last : EndsNoLine (drop (i + 1) z) = subst (λ (n : ℕ). EndsNoLine (drop n z)) (sym later) one in
@@ -87,7 +87,7 @@ behind_lines p z r less one feed =
     let whole : place_from p z ≡ place_from q (drop i z) = ap (place_from p) (sym (take-append-drop i z)) ∙ fold-append place_after p (take i z) (drop i z) in
     let along : place_from p z ≡ place_along next (length (drop (i + 1) z)) = whole ∙ (ap (place_from q) cut ∙ along_line next (drop (i + 1) z) last) in
     let left : length (drop (i + 1) z) ≡ r = omega (arith, length-drop (i + 1) z, less) in
-    let column : (place_from p z).column ≡ 1 + r = ap (λ (x : Place). x.column) along ∙ ap (λ (n : ℕ). 1 + n) left in
+    let column : (place_from p z).column ≡ 1 + r = ap (λ (x : TextPlace). x.column) along ∙ ap (λ (n : ℕ). 1 + n) left in
     let parts = counted p z in
     same_place (record { at = p.at + length z; line = p.line + count_by (λ x. x == 10) z; column = 1 + r }) (place_from p z) (sym parts.0) (sym parts.1) (sym column)
 
@@ -138,19 +138,19 @@ lexeme_line z _ _ (symbol {s = x} is) =
     subst EndsNoLine (sym front) (symbol_line x)
 
 -- the place follows the bytes behind another
-pub record Follows (p : Place) (z : List ℕ) (q : Place) : Type 0 where
+pub record Follows (p : TextPlace) (z : List ℕ) (q : TextPlace) : Type 0 where
   pub place : q ≡ place_from p z
   pub at : q.at ≡ p.at + length z
   pub line : q.line ≤ q.at + 1
   pub column : q.column ≤ q.at + 1
 
-pub followed : (p : Place) (rest : List ℕ) (n m : ℕ) (q r : Place) → n ≡ m → q ≡ r → Follows p (take m rest) r → Follows p (take n rest) q
-followed p rest n m q r e f is = subst (λ (x : Place). Follows p (take n rest) x) (sym f) (subst (λ (k : ℕ). Follows p (take k rest) r) (sym e) is)
+pub followed : (p : TextPlace) (rest : List ℕ) (n m : ℕ) (q r : TextPlace) → n ≡ m → q ≡ r → Follows p (take m rest) r → Follows p (take n rest) q
+followed p rest n m q r e f is = subst (λ (x : TextPlace). Follows p (take n rest) x) (sym f) (subst (λ (k : ℕ). Follows p (take k rest) r) (sym e) is)
 
-along_follows : (p : Place) (rest : List ℕ) (n : ℕ) → n ≤ length rest → EndsNoLine (take n rest) → p.line ≤ p.at + 1 → p.column ≤ p.at + 1 → Follows p (take n rest) (place_along p n)
+along_follows : (p : TextPlace) (rest : List ℕ) (n : ℕ) → n ≤ length rest → EndsNoLine (take n rest) → p.line ≤ p.at + 1 → p.column ≤ p.at + 1 → Follows p (take n rest) (place_along p n)
 along_follows p rest n low one line column =
     let count : length (take n rest) ≡ n = length-take-le n rest low in
     record { place = ap (place_along p) (sym count) ∙ sym (along_line p (take n rest) one); at = omega (arith, count); line = omega arith; column = omega arith }
 
-pub follows_along : (p : Place) (rest : List ℕ) (n : ℕ) (q : Place) → n ≤ length rest → EndsNoLine (take n rest) → p.line ≤ p.at + 1 → p.column ≤ p.at + 1 → q ≡ place_along p n → Follows p (take n rest) q
-follows_along p rest n q low one line column e = subst (λ (x : Place). Follows p (take n rest) x) (sym e) (along_follows p rest n low one line column)
+pub follows_along : (p : TextPlace) (rest : List ℕ) (n : ℕ) (q : TextPlace) → n ≤ length rest → EndsNoLine (take n rest) → p.line ≤ p.at + 1 → p.column ≤ p.at + 1 → q ≡ place_along p n → Follows p (take n rest) q
+follows_along p rest n q low one line column e = subst (λ (x : TextPlace). Follows p (take n rest) x) (sym e) (along_follows p rest n low one line column)

@@ -3,7 +3,7 @@ ghost use Rattle.std.specs.Prelude.{◌≡◌, ◌+◌, ◌-◌, ◌≤◌, ◌<
 ghost use Rattle.tp_lex.specs.Place.{source_limit, place_of, place_from, token_at};
 ghost use Rattle.tp_lex.specs.Line.{EndsNoLine, place_along};
 
-use crate::token::{Kind, Place, Token};
+use crate::token::{Kind, TextPlace, Token};
 use tp_lanes::count_byte;
 
 // How many bytes stand behind the last line feed, or at all.
@@ -20,21 +20,21 @@ fn last_line_len(bytes: &[u8]) -> usize
     bytes.len() - from
 }
 
-impl Place {
+impl TextPlace {
     /// Where a text begins.
-    pub const START: Place = Place {
+    pub const START: TextPlace = TextPlace {
         at: 0,
         line: 1,
         column: 1,
     };
 
     /// The place behind so many bytes of the same line.
-    pub fn along(self, len: usize) -> Place
+    pub fn along(self, len: usize) -> TextPlace
         requires at { self.at + len < 2 ^ 32 }
         requires column { self.column + len < 2 ^ 32 }
         ensures { result ≡ place_along self len }
     {
-        Place {
+        TextPlace {
             at: self.at + len as u32,
             line: self.line,
             column: self.column + len as u32,
@@ -42,7 +42,7 @@ impl Place {
     }
 
     /// The place behind some more bytes.
-    pub fn after(self, bytes: &[u8]) -> Place
+    pub fn after(self, bytes: &[u8]) -> TextPlace
         requires at { self.at + length bytes.now + 1 < 2 ^ 32 }
         requires line { self.line ≤ self.at + 1 }
         requires column { self.column ≤ self.at + 1 }
@@ -55,7 +55,7 @@ impl Place {
         if lines == 0 {
             return self.along(bytes.len());
         }
-        Place {
+        TextPlace {
             at: self.at + bytes.len() as u32,
             line: self.line + lines as u32,
             column: 1 + last_line_len(bytes) as u32,
@@ -84,6 +84,6 @@ pub fn place_of(bytes: &[u8], at: usize) -> (u32, u32)
     requires size { length bytes.now ≤ source_limit }
     ensures { let place = place_of bytes.now at in result ≡ (place.line, place.column) }
 {
-    let place = Place::START.after(&bytes[..at]);
+    let place = TextPlace::START.after(&bytes[..at]);
     (place.line, place.column)
 }

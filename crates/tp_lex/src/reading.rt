@@ -6,7 +6,7 @@ ghost use Rattle.tp_lex.specs.Tokens.{AreTokens, IsRefusedUnlessMemory, refusal_
 use crate::first::first_piece;
 use crate::piece::{Fault, Piece};
 use crate::refusal::LexRefusal;
-use crate::token::{Place, Tokens};
+use crate::token::{TextPlace, Tokens};
 use std::alloc::Global;
 
 fn refusal(fault: Fault, at: usize) -> LexRefusal
@@ -29,7 +29,7 @@ pub fn tokens(alloc: Global, bytes: &[u8]) -> Result<Tokens, LexRefusal>
     let mut found = Vec::new(alloc);
     // Room for the tokens of most texts at once. Where there is none, each push asks for its own.
     let _ = found.reserve(bytes.len() / 4);
-    let mut place = Place::START;
+    let mut place = TextPlace::START;
     let mut rest = bytes;
     while !rest.is_empty() {
         let (len, next) = match first_piece(alloc, rest)? {

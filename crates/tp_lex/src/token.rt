@@ -95,7 +95,7 @@ pub struct Token {
 
 /// A place in a text: the number of bytes before it, and its line and column, counted from 1.
 #[derive(Clone, Copy)]
-pub struct Place {
+pub struct TextPlace {
     pub at: u32,
     pub line: u32,
     pub column: u32,

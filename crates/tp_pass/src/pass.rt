@@ -13,7 +13,7 @@ ghost use Rattle.tp_store.specs.Stock.{contents_in};
 
 use crate::sweep::Sweep;
 use std::sync::ledger::Ledger;
-use tp_step::{Course, Ending, Scene, Setting, Steps, Tally, Tried, has_item, try_item};
+use tp_step::{Ending, Scene, Setting, Steps, Strategy, Tally, Tried, has_item, try_item};
 use tp_store::Store;
 use tp_value::NoMemory;
 
@@ -57,7 +57,7 @@ fn pass<L: Ledger>(
     scene: &mut Scene,
     store: &mut Store,
     setting: &Setting,
-    course: &mut Course,
+    strategy: &mut Strategy,
     tally: &mut Tally,
     steps: &mut Steps<L>,
 ) -> Result<Option<Ending>, NoMemory>
@@ -67,27 +67,27 @@ fn pass<L: Ledger>(
     ensures kept { IsWellKept scene.new }
     ensures made { IfOk result
         (MakesPass (setting_of setting.now) (moment_of scene.old (contents_in store.old))
-        (moment_of scene.new (contents_in store.new)) course.old.order course.new.order
-        course.old.room course.new.room tally.old.picks tally.new.picks) }
+        (moment_of scene.new (contents_in store.new)) strategy.old.order strategy.new.order
+        strategy.old.room strategy.new.room tally.old.picks tally.new.picks) }
     ensures err { OnErr result
         (Made (setting_of setting.now) (moment_of scene.old (contents_in store.old))
-        (moment_of scene.new (contents_in store.new)) course.old.room course.new.room
+        (moment_of scene.new (contents_in store.new)) strategy.old.room strategy.new.room
         tally.old.picks tally.new.picks) }
     ensures waits { tally.new.waits ≡ tally.old.waits }
     ensures rests { tally.new.rests ≡ tally.old.rests }
 {
-    let mut sweep = Sweep::begin(setting.alloc, scene, &mut course.order)?;
+    let mut sweep = Sweep::begin(setting.alloc, scene, &mut strategy.order)?;
     'items: while let Some(item) = sweep.next(scene) {
         if !has_item(scene, item) {
             continue;
         }
         // its place is taken before it is tried, so that nothing that was done goes unrecorded
         tally.picks.items.push(item)?;
-        let Ok(tried) = try_item(scene, item, store, setting, course.room, steps) else {
+        let Ok(tried) = try_item(scene, item, store, setting, strategy.room, steps) else {
             tally.picks.items.pop();
             return Err(NoMemory);
         };
-        record(&tried, &mut course.room, tally);
+        record(&tried, &mut strategy.room, tally);
         match ending_of(tried) {
             Some(ending) => return Ok(Some(ending)),
             None => {}
@@ -99,13 +99,13 @@ fn pass<L: Ledger>(
 /// Closes a state by passes, which are repeated until one reduces nothing. In order `First` a pass tries the live items by increasing
 /// number, new ones too; in order `Last` the items that were live as it began, by decreasing number; in that of a seed those same
 /// items by increasing number, from a place that the seed chooses, and round. An item that isn't live at its turn is passed over. At
-/// most `course.room` items are reduced. Their numbers are appended to the tally's picks, in order; scene and store stand where these
+/// most `strategy.room` items are reduced. Their numbers are appended to the tally's picks, in order; scene and store stand where these
 /// picks lead, also where memory ends. The tally's waits and rests stay as they are.
 pub fn close_by_passes<L: Ledger>(
     scene: &mut Scene,
     store: &mut Store,
     setting: &Setting,
-    mut course: Course,
+    mut strategy: Strategy,
     tally: &mut Tally,
     steps: &mut Steps<L>,
 ) -> Result<Ending, NoMemory>
@@ -118,35 +118,35 @@ pub fn close_by_passes<L: Ledger>(
         → IsSound (setting_of setting.now) kinds (moment_of scene.new (contents_in store.new))) }
     ensures kept { IsWellKept scene.new }
     ensures closes { IfOk result
-        (ClosureAnswers (setting_of setting.now) course.room
+        (ClosureAnswers (setting_of setting.now) strategy.room
         (moment_of scene.old (contents_in store.old)) (moment_of scene.new (contents_in store.new))
         tally.old.picks tally.new.picks) }
     ensures err { OnErr result
         ((left : ℕ)
         × Made (setting_of setting.now) (moment_of scene.old (contents_in store.old))
-        (moment_of scene.new (contents_in store.new)) course.room left tally.old.picks
+        (moment_of scene.new (contents_in store.new)) strategy.room left tally.old.picks
         tally.new.picks) }
     ensures order { IfOk result
-        (FollowsOrder (setting_of setting.now) course.order course.room
+        (FollowsOrder (setting_of setting.now) strategy.order strategy.room
         (moment_of scene.old (contents_in store.old)) (moment_of scene.new (contents_in store.new))
         tally.old.picks tally.new.picks) }
     ensures commutes { IfOk result
-        (ClosureCommutes (setting_of setting.now) course.room
+        (ClosureCommutes (setting_of setting.now) strategy.room
         (moment_of scene.old (contents_in store.old)) (moment_of scene.new (contents_in store.new))
         tally.old.picks tally.new.picks) }
     ensures room { IfOk result
-        (ClosureKeepsRoom (setting_of setting.now) course.room
+        (ClosureKeepsRoom (setting_of setting.now) strategy.room
         (moment_of scene.new (contents_in store.new)) tally.old.picks tally.new.picks) }
     ensures waits { tally.new.waits ≡ tally.old.waits }
     ensures rests { tally.new.rests ≡ tally.old.rests }
 {
     'passes: loop {
-        let before = course.room;
-        match pass(scene, store, setting, &mut course, tally, steps)? {
+        let before = strategy.room;
+        match pass(scene, store, setting, &mut strategy, tally, steps)? {
             Some(ending) => return Ok(ending),
             None => {}
         }
-        if course.room == before {
+        if strategy.room == before {
             return Ok(Ending::Rest);
         }
     }

@@ -38,7 +38,7 @@ use tp_check::Program;
 use tp_inputs::Inputs;
 use tp_show::{Cell, Picture, Turn};
 use tp_step::{
-    Course, Ending, Order, Scene, Setting, Settled, Steps, Tally, Tried, advance, settled, start,
+    Ending, Order, Scene, Setting, Settled, Steps, Strategy, Tally, Tried, advance, settled, start,
     try_item,
 };
 use tp_store::Store;
@@ -271,11 +271,11 @@ impl<'a> Settings<'a> {
         }
         clear_tally(tally);
         // Each state begins with the run's order, so a seed's choices begin again.
-        let course = Course {
+        let strategy = Strategy {
             order: self.order,
             room: self.limits.reductions,
         };
-        let ending = close_by_agenda(&mut scene, store, &self.setting, course, tally, steps)?;
+        let ending = close_by_agenda(&mut scene, store, &self.setting, strategy, tally, steps)?;
         match ending {
             Ending::Rest => {
                 let reductions = tally.picks.items.len() as u64;

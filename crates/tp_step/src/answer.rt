@@ -89,10 +89,10 @@ pub enum Settled {
     Goes,
 }
 
-/// How a closure goes on: which item it tries next, and how many it may still reduce. Of a seed its word is kept that makes the next
-/// choice.
+/// How a closure goes on, its strategy: which item it tries next, and how many it may still reduce. Of a seed its word is kept that
+/// makes the next choice.
 #[derive(Clone, Copy, Debug, PartialEq, Eq)]
-pub struct Course {
+pub struct Strategy {
     pub order: Order,
     pub room: u64,
 }

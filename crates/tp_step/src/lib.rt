@@ -16,7 +16,7 @@ mod step;
 mod steps;
 mod tally;
 
-pub use answer::{Course, ItemIds, NewIds, News, Settled, Tried};
+pub use answer::{ItemIds, NewIds, News, Settled, Strategy, Tried};
 pub use ending::Ending;
 pub use first::start;
 pub use laws::first_waiting_is_named;

@@ -110,7 +110,7 @@ fn has_plain(nodes: &Nodes, number: u64, index: u32) -> bool
     requires { IsTree nodes.now }
     ensures { IsTrue result → IsNumberOrTruth (item_shape nodes.now number index) }
 {
-    is_plain(nodes.item(number, index))
+    is_plain(nodes.item_shape(number, index))
 }
 
 // How many of its items, from the first on, are numbers and truths, where so many are.
@@ -169,7 +169,7 @@ fn lacks_shape(nodes: &Nodes, number: u64, index: u32) -> bool
     ensures { IsTrue result → LacksShape nodes.now number index }
 {
     match nodes.variable(number) {
-        Some(Shape::Items(count)) => index < count && nodes.item(number, index).is_none(),
+        Some(Shape::Items(count)) => index < count && nodes.item_shape(number, index).is_none(),
         Some(Shape::Num(_) | Shape::Truth(_)) | None => false,
     }
 }

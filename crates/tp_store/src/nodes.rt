@@ -201,7 +201,7 @@ impl Nodes {
     }
 
     /// What is kept of an item of the variable with that number.
-    pub fn item(&self, number: u64, index: u32) -> Option<Shape>
+    pub fn item_shape(&self, number: u64, index: u32) -> Option<Shape>
         requires { IsTree self.now }
         ensures { result ≡ item_shape self.now number index }
     {

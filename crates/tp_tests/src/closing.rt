@@ -18,7 +18,7 @@ use tp_check::Program;
 use tp_inputs::{Inputs, read_inputs};
 use tp_pass::close_by_passes;
 use tp_step::{
-    Course, Ending, ItemIds, Mark, Scene, Setting, Steps, Tally, Waits, items, mark, start,
+    Ending, ItemIds, Mark, Scene, Setting, Steps, Strategy, Tally, Waits, items, mark, start,
 };
 use tp_store::Store;
 use tp_value::{Facts, NoMemory};
@@ -84,7 +84,7 @@ fn close<L: Ledger>(
     store: &mut Store,
     setting: &Setting,
     closing: Closing,
-    course: Course,
+    strategy: Strategy,
     steps: &mut Steps<L>,
 ) -> Result<(Ending, Tally), NoMemory>
     requires kept { IsWellKept scene.old }
@@ -95,11 +95,11 @@ fn close<L: Ledger>(
     let mut tally = nothing_told(setting.alloc);
     match closing {
         Closing::ByPasses => {
-            let ending = close_by_passes(scene, store, setting, course, &mut tally, steps)?;
+            let ending = close_by_passes(scene, store, setting, strategy, &mut tally, steps)?;
             Ok((ending, tally))
         }
         Closing::ByAgenda => {
-            let ending = close_by_agenda(scene, store, setting, course, &mut tally, steps)?;
+            let ending = close_by_agenda(scene, store, setting, strategy, &mut tally, steps)?;
             Ok((ending, tally))
         }
     }
@@ -130,7 +130,7 @@ fn closed_state<L: Ledger>(
     program: &Program,
     inputs: &Inputs,
     closing: Closing,
-    course: Course,
+    strategy: Strategy,
 ) -> Result<ClosedState, NoMemory>
     requires name { blank.name ≡ L.name }
     requires parts { blank.parts ≡ L.parts }
@@ -140,7 +140,7 @@ fn closed_state<L: Ledger>(
     let mut steps = Steps::<L>::new(blank);
     let (mut scene, mut store, setting) = begin(alloc, program, inputs)?;
     let (ending, tally) = close(
-        &mut scene, &mut store, &setting, closing, course, &mut steps,
+        &mut scene, &mut store, &setting, closing, strategy, &mut steps,
     )?;
     let live = live_items(alloc, &scene)?;
     let facts = global_facts(alloc, &store, program)?;
@@ -159,10 +159,10 @@ pub fn closed_source(
     source: &str,
     table: &str,
     closing: Closing,
-    course: Course,
+    strategy: Strategy,
 ) -> Result<ClosedState, Fail> {
     let program = program_of(alloc, source)?;
     let inputs = read_inputs(alloc, table.as_bytes())?;
-    let state = closed_state::<Brand>(alloc, Blank::new(1), &program, &inputs, closing, course)?;
+    let state = closed_state::<Brand>(alloc, Blank::new(1), &program, &inputs, closing, strategy)?;
     Ok(state)
 }

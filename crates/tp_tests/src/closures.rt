@@ -6,7 +6,7 @@ use crate::tables::{number, parts};
 use std::alloc::Global;
 use std::process::Abort;
 use std::test::Fail;
-use tp_step::{Course, Ending, ItemIds, Order, Tally};
+use tp_step::{Ending, ItemIds, Order, Strategy, Tally};
 use tp_value::{Fact, Facts, NoMemory};
 
 // Whether this fact is among them.
@@ -77,15 +77,15 @@ const AMPLE: u64 = 99;
 fn expect_same_rests(rt: &(impl Abort + AllocGlobal), row: &str, order: Order) -> Result<(), Fail> {
     let alloc = rt.alloc();
     let (source, table) = row.split_once('#').ok_or("no row")?;
-    let first = Course {
+    let first = Strategy {
         order: Order::First,
         room: AMPLE,
     };
-    let course = Course { order, room: AMPLE };
+    let strategy = Strategy { order, room: AMPLE };
     let expected = closed_source(alloc, source, table, Closing::ByPasses, first)?;
-    let by_passes = closed_source(alloc, source, table, Closing::ByPasses, course)?;
+    let by_passes = closed_source(alloc, source, table, Closing::ByPasses, strategy)?;
     expect_same_rest(rt, &by_passes, &expected, source);
-    let by_agenda = closed_source(alloc, source, table, Closing::ByAgenda, course)?;
+    let by_agenda = closed_source(alloc, source, table, Closing::ByAgenda, strategy)?;
     expect_same_rest(rt, &by_agenda, &expected, source);
     Ok(())
 }
@@ -218,8 +218,8 @@ fn expect_tally(rt: &(impl Abort + AllocGlobal), row: &str, closing: Closing) ->
     };
     let order = order_named(order)?;
     let room = number(room)?;
-    let course = Course { order, room };
-    let state = closed_source(alloc, source, TABLE, closing, course)?;
+    let strategy = Strategy { order, room };
+    let state = closed_source(alloc, source, TABLE, closing, strategy)?;
     let text = tally_text(alloc, &state.tally, &state.ending)?;
     same_text(rt, text.as_str(), expected, source);
     Ok(())

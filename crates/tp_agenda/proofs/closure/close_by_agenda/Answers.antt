@@ -8,7 +8,7 @@ use Rattle.tp_agenda.proofs.closure.close_by_agenda.Goals as goal
 
 pub returns-in_err-board-clause-err : goal.returns-in_err-board-clause-err
 returns-in_err-board-clause-err g c =
-    let room = c.args.course.room in
+    let room = c.args.strategy.room in
     on_refusal c.from_residual.result (rw c.begin.ensures.same (room, made_none (setting_of c.args.setting.now) (moment_of c.args.scene.now (contents_in c.args.store.now)) room c.args.tally.now.picks))
 
 pub returns-clause-sound : goal.returns-clause-sound

@@ -29,8 +29,8 @@ tries-init g c =
     let ready = agenda.board.ready in
     let q = c.requires in
     record {
-      so_far = agenda_starts w m agenda.course.order agenda.course.room tally.picks tally.waits.items.items tally.rests c.args.steps.now q.no_waits q.no_rests;
-      made = made_none w m agenda.course.room tally.picks;
+      so_far = agenda_starts w m agenda.strategy.order agenda.strategy.room tally.picks tally.waits.items.items tally.rests c.args.steps.now q.no_waits q.no_rests;
+      made = made_none w m agenda.strategy.room tally.picks;
       held = subst (λ (xs : List Wait). IsHeld w m xs tally.rests over ready nothing_due) (sym q.no_waits) (subst (λ (ts : List ℕ). IsHeld w m [] ts over ready nothing_due) (sym q.no_rests) q.held);
       fits = subst (λ (xs : List Wait). FitsBoard xs agenda.board) (sym q.no_waits) q.fits;
       flags = q.flags;
@@ -53,7 +53,7 @@ try_item-requires-clause-sound g c =
 
 pub count_pick-requires : goal.count_pick-requires
 count_pick-requires g c = record {
-  left = picks_have_room (setting_of c.args.setting.now) c.in-Some.item c.tries.agenda.course.room (moment_of c.tries.scene (contents_in c.tries.store)) (moment_of c.try_item.new.scene (contents_in c.try_item.new.store)) c.in-Ok.tried c.in-Ok.ensures.answer;
+  left = picks_have_room (setting_of c.args.setting.now) c.in-Some.item c.tries.agenda.strategy.room (moment_of c.tries.scene (contents_in c.tries.store)) (moment_of c.try_item.new.scene (contents_in c.try_item.new.store)) c.in-Ok.tried c.in-Ok.ensures.answer;
 }
 
 -- the waits are those that there were
@@ -89,21 +89,21 @@ take_in-requires-clause-near g c =
     let lives = turn_lives w (moment_of c.args.scene.now (contents_in c.args.store.now)) here _ _ c.next.new.order _ _ _ _ tally.waits.items.items tally.rests _ _
     inv.so_far board taken inv.held item (c.in-Some.ensures.some item refl) (c.in-Some.ensures.taken item refl) in
     subst (λ (xs : List Wait). NewsAreNear c.try_item.new.scene c.in-Ok.tried taken xs) (sym (same_waits g (goal.at.take_in-requires-clause-near g c).After-count_pick))
-    (news_near w sound.0 c.tries.scene c.try_item.new.scene (contents_in c.tries.store) (contents_in c.try_item.new.store) item sound_here inv.kept c.try_item.ensures.kept lives c.tries.agenda.course.room
+    (news_near w sound.0 c.tries.scene c.try_item.new.scene (contents_in c.tries.store) (contents_in c.try_item.new.store) item sound_here inv.kept c.try_item.ensures.kept lives c.tries.agenda.strategy.room
     tally.waits.items.items tally.rests board taken inv.held inv.taken (ap (λ (b : Board). b.over) without) (ap (λ (b : Board). b.taken) without) c.in-Ok.tried c.in-Ok.ensures.answer)
 
 -- the picks that were made, and what comes of the last try
 made : (g : Over) (c : After-take_in g) → Made (setting_of c.args.setting.now) (moment_of c.args.scene.now (contents_in c.args.store.now)) (moment_of c.try_item.new.scene (contents_in c.try_item.new.store))
-    c.args.agenda.now.course.room c.count_pick.new.left c.args.tally.now.picks c.take_in.new.tally.picks
+    c.args.agenda.now.strategy.room c.count_pick.new.left c.args.tally.now.picks c.take_in.new.tally.picks
 made g c =
     let w = setting_of c.args.setting.now in
     let first = moment_of c.args.scene.now (contents_in c.args.store.now) in
     let next = moment_of c.try_item.new.scene (contents_in c.try_item.new.store) in
-    subst (λ xs. Made w first next c.args.agenda.now.course.room c.count_pick.new.left c.args.tally.now.picks xs) (sym c.take_in.ensures.picks)
+    subst (λ xs. Made w first next c.args.agenda.now.strategy.room c.count_pick.new.left c.args.tally.now.picks xs) (sym c.take_in.ensures.picks)
     (tried_made w first (moment_of c.tries.scene (contents_in c.tries.store)) next c.in-Some.item _ _ _ _ c.tries.tally.picks _ c.in-Ok.tried c.tries.invariant.made c.in-Ok.ensures.answer (c.count_pick.ensures.counts c.tries.tally.picks c.in-Some.item (c.in_ok-push.ensures.items ∙ ap (λ (y : Tally). y.picks ++ c.in-Some.item ∷ []) c.tally.view_is)))
 
 came : (g : Over) (c : In_ok-ending g) → ComesOf (setting_of c.args.setting.now) (moment_of c.args.scene.now (contents_in c.args.store.now)) (moment_of c.try_item.new.scene (contents_in c.try_item.new.store))
-    c.args.agenda.now.course.order c.next.new.order c.args.agenda.now.course.room c.tries.agenda.course.room c.count_pick.new.left c.args.tally.now.picks c.take_in.new.tally.picks
+    c.args.agenda.now.strategy.order c.next.new.order c.args.agenda.now.strategy.room c.tries.agenda.strategy.room c.count_pick.new.left c.args.tally.now.picks c.take_in.new.tally.picks
     c.take_in.new.tally.waits.items.items c.take_in.new.tally.rests c.args.steps.now c.try_item.new.steps c.tries.agenda.board c.take_in.new.self c.in_ok-ending.field-0
 came g c =
     let w = setting_of c.args.setting.now in

@@ -16,8 +16,8 @@ invariant-tries g l =
     let here = moment_of l.scene (contents_in l.store) in
     let recorded = l.tally.waits.items.items in
     record {
-      so_far : AgendaSoFar w first here l.initial.agenda.course.order l.agenda.course.order l.initial.agenda.course.room l.agenda.course.room l.initial.tally.picks l.tally.picks recorded l.tally.rests l.initial.steps l.steps;
-      made : Made w first here l.initial.agenda.course.room l.agenda.course.room l.initial.tally.picks l.tally.picks;
+      so_far : AgendaSoFar w first here l.initial.agenda.strategy.order l.agenda.strategy.order l.initial.agenda.strategy.room l.agenda.strategy.room l.initial.tally.picks l.tally.picks recorded l.tally.rests l.initial.steps l.steps;
+      made : Made w first here l.initial.agenda.strategy.room l.agenda.strategy.room l.initial.tally.picks l.tally.picks;
       held : IsHeld w here recorded l.tally.rests l.agenda.board.over.items l.agenda.board.ready nothing_due;
       fits : FitsBoard recorded l.agenda.board;
       flags : HasFlags here.scene l.agenda.board;
@@ -26,4 +26,4 @@ invariant-tries g l =
     }
 
 abbrev pub decreases-tries : goal.decreases-tries
-decreases-tries g l = l.agenda.course.room * 2 ^ 64 + count_by (λ b. b) l.agenda.board.ready
+decreases-tries g l = l.agenda.strategy.room * 2 ^ 64 + count_by (λ b. b) l.agenda.board.ready

@@ -5,7 +5,7 @@ use Rattle.tp_lex.specs.declared.piece.Piece.{Piece}
 use Rattle.tp_lex.specs.declared.piece.Piece.TheVariants as v
 use Rattle.tp_lex.specs.declared.token.Kind.{Kind}
 use Rattle.tp_lex.specs.declared.token.Token.{Token}
-use Rattle.tp_lex.specs.declared.token.Place.{Place}
+use Rattle.tp_lex.specs.declared.token.TextPlace.{TextPlace}
 use Rattle.tp_lex.specs.First.{first_piece}
 use Rattle.tp_lex.specs.Pieces.{BeginsPiece}
 use Rattle.tp_lex.specs.Place.{place_of, place_from, token_at}
@@ -53,8 +53,8 @@ some_bytes rest p len full first n (inr lexeme) same = lexeme_takes _ _ _ _ _ (p
 
 passed : (c : goal.After-next-1) → (0 < c.match-branch-2.len.0) × (c.match-branch-2.len.0 ≤ length c.loop-rest.rest.now)
 passed c = elim c.match-branch-2.branch [
-  | in-Gap w ↦ some_bytes _ _ _ (grind (arith, common_steps)) c.in_ok-len.ensures _ (inl w.in-Gap.is) (ap (λ (x : ℕ × Place). x.0) w.len-is)
-  | in-Lexeme+in_ok-push-in-Lexeme w ↦ some_bytes _ _ _ (grind (arith, common_steps)) c.in_ok-len.ensures _ (inr (_, w.in-Lexeme.is)) (ap (λ (x : ℕ × Place). x.0) w.len-is)
+  | in-Gap w ↦ some_bytes _ _ _ (grind (arith, common_steps)) c.in_ok-len.ensures _ (inl w.in-Gap.is) (ap (λ (x : ℕ × TextPlace). x.0) w.len-is)
+  | in-Lexeme+in_ok-push-in-Lexeme w ↦ some_bytes _ _ _ (grind (arith, common_steps)) c.in_ok-len.ensures _ (inr (_, w.in-Lexeme.is)) (ap (λ (x : ℕ × TextPlace). x.0) w.len-is)
 ]
 
 pub slice_bounds-rest-count : goal.slice_bounds-rest-count
@@ -66,8 +66,8 @@ slice_bounds-rest-start c = let within = (passed c).1 in search rules
 -- the same, where these bytes are cut off
 taken : (c : goal.After-rest-1) → (0 < c.match-branch-2.len.0) × (c.match-branch-2.len.0 ≤ length c.loop-rest.rest.now)
 taken c = elim c.match-branch-2.branch [
-  | in-Gap w ↦ some_bytes _ _ _ (grind (arith, common_steps)) c.in_ok-len.ensures _ (inl w.in-Gap.is) (ap (λ (x : ℕ × Place). x.0) w.len-is)
-  | in-Lexeme+in_ok-push-in-Lexeme w ↦ some_bytes _ _ _ (grind (arith, common_steps)) c.in_ok-len.ensures _ (inr (_, w.in-Lexeme.is)) (ap (λ (x : ℕ × Place). x.0) w.len-is)
+  | in-Gap w ↦ some_bytes _ _ _ (grind (arith, common_steps)) c.in_ok-len.ensures _ (inl w.in-Gap.is) (ap (λ (x : ℕ × TextPlace). x.0) w.len-is)
+  | in-Lexeme+in_ok-push-in-Lexeme w ↦ some_bytes _ _ _ (grind (arith, common_steps)) c.in_ok-len.ensures _ (inr (_, w.in-Lexeme.is)) (ap (λ (x : ℕ × TextPlace). x.0) w.len-is)
 ]
 
 pub loop-rest-smaller : goal.loop-rest-smaller
@@ -87,19 +87,19 @@ loop-rest-preserved c =
     let at : ℕ = c.loop-rest.place.at in
     let left = ap length c.loop-rest.invariant.rest in
     let here : BeginsPiece (drop at bytes) c.in_ok-len.field-0 = subst (λ (z : List ℕ). BeginsPiece z c.in_ok-len.field-0) c.loop-rest.invariant.rest found.0 in
-    let next : Place = c.match-branch-2.len.1 in
+    let next : TextPlace = c.match-branch-2.len.1 in
     let stands : Follows c.loop-rest.place (take len rest) next = elim c.match-branch-2.branch [
       | in-Gap w ↦
           let after : Follows c.loop-rest.place (take w.in-Gap.len rest) w.after.result = record { place = w.after.ensures.place; at = w.after.ensures.at; line = w.after.ensures.line; column = w.after.ensures.column } in
-          followed c.loop-rest.place rest len _ next _ (ap (λ (x : ℕ × Place). x.0) w.len-is) (ap (λ (x : ℕ × Place). x.1) w.len-is) after
+          followed c.loop-rest.place rest len _ next _ (ap (λ (x : ℕ × TextPlace). x.0) w.len-is) (ap (λ (x : ℕ × TextPlace). x.1) w.len-is) after
       | in-Lexeme+in_ok-push-in-Lexeme w ↦
-          let some : len ≡ w.in-Lexeme.len = ap (λ (x : ℕ × Place). x.0) w.len-is in
+          let some : len ≡ w.in-Lexeme.len = ap (λ (x : ℕ × TextPlace). x.0) w.len-is in
           let one : EndsNoLine (take w.in-Lexeme.len rest) = lexeme_line rest w.in-Lexeme.kind w.in-Lexeme.len (subst (BeginsPiece rest) w.in-Lexeme.is found.0) in
           let along : Follows c.loop-rest.place (take w.in-Lexeme.len rest) w.along.result =
           follows_along c.loop-rest.place rest w.in-Lexeme.len w.along.result (omega (arith, within, some)) one c.loop-rest.invariant.line c.loop-rest.invariant.column w.along.ensures in
-          followed c.loop-rest.place rest len _ next _ some (ap (λ (x : ℕ × Place). x.1) w.len-is) along
+          followed c.loop-rest.place rest len _ next _ some (ap (λ (x : ℕ × TextPlace). x.1) w.len-is) along
     ] in
-    let place : next ≡ place_of bytes (at + len) = stands.place ∙ (ap (λ (q : Place). place_from q (take len rest)) c.loop-rest.invariant.place ∙ (ap (λ (z : List ℕ). place_from (place_of bytes at) (take len z)) c.loop-rest.invariant.rest ∙ place_later bytes at len)) in
+    let place : next ≡ place_of bytes (at + len) = stands.place ∙ (ap (λ (q : TextPlace). place_from q (take len rest)) c.loop-rest.invariant.place ∙ (ap (λ (z : List ℕ). place_from (place_of bytes at) (take len z)) c.loop-rest.invariant.rest ∙ place_later bytes at len)) in
     let advanced : next.at ≡ at + len = omega (arith, stands.at, length-take-le len rest within) in
     let old : List Token = c.loop-rest.found.items in
     let new : List Token = c.match-branch-2.found.items in
@@ -107,13 +107,13 @@ loop-rest-preserved c =
     let more : Continues bytes (at + len) new = elim c.match-branch-2.branch [
       | in-Gap w ↦
           let kept : new ≡ old = cc in
-          past_gap bytes at w.in-Gap.len len c.in_ok-len.field-0 old new so_far here w.in-Gap.is (ap (λ (x : ℕ × Place). x.0) w.len-is) kept
+          past_gap bytes at w.in-Gap.len len c.in_ok-len.field-0 old new so_far here w.in-Gap.is (ap (λ (x : ℕ × TextPlace). x.0) w.len-is) kept
       | in-Lexeme+in_ok-push-in-Lexeme w ↦
           let pushed : new ≡ old ++ token_at w.in-Lexeme.kind w.in-Lexeme.len c.loop-rest.place ∷ [] =
           ap (λ v. v.items) w.found-is ∙ (w.in_ok-push-in-Lexeme.ensures.items ∙ ap (λ (q : Token). old ++ q ∷ []) w.token.ensures) in
           let longer : new ≡ old ++ token_at w.in-Lexeme.kind w.in-Lexeme.len (place_of bytes at) ∷ [] =
-          pushed ∙ ap (λ (q : Place). old ++ token_at w.in-Lexeme.kind w.in-Lexeme.len q ∷ []) c.loop-rest.invariant.place in
-          past_lexeme bytes at w.in-Lexeme.len len w.in-Lexeme.kind c.in_ok-len.field-0 old new so_far here w.in-Lexeme.is (ap (λ (x : ℕ × Place). x.0) w.len-is) longer
+          pushed ∙ ap (λ (q : TextPlace). old ++ token_at w.in-Lexeme.kind w.in-Lexeme.len q ∷ []) c.loop-rest.invariant.place in
+          past_lexeme bytes at w.in-Lexeme.len len w.in-Lexeme.kind c.in_ok-len.field-0 old new so_far here w.in-Lexeme.is (ap (λ (x : ℕ × TextPlace). x.0) w.len-is) longer
     ] in
     record {
       within = omega (arith, length-drop at bytes);

@@ -12,7 +12,7 @@ use Rattle.tp_pass.proofs.pass.pass.Goals as goal
 
 pub items-init : goal.items-init
 items-init g c = record {
-  so_far = pass_begins (setting_of c.args.setting.now) (moment_of c.args.scene.now (contents_in c.args.store.now)) c.args.course.now.order c.begin.new.order c.in_ok-sweep.sweep c.args.course.now.room c.args.tally.now.picks c.in_ok-sweep.ensures.begins;
+  so_far = pass_begins (setting_of c.args.setting.now) (moment_of c.args.scene.now (contents_in c.args.store.now)) c.args.strategy.now.order c.begin.new.order c.in_ok-sweep.sweep c.args.strategy.now.room c.args.tally.now.picks c.in_ok-sweep.ensures.begins;
   order = refl;
   waits = refl;
   rests = refl;
@@ -21,7 +21,7 @@ items-init g c = record {
 
 pub record-requires : goal.record-requires
 record-requires g c =
-    let room = picks_have_room (setting_of c.args.setting.now) c.in-Some.item c.items.course.room (moment_of c.items.scene (contents_in c.items.store)) (moment_of c.try_item.new.scene (contents_in c.try_item.new.store)) in
+    let room = picks_have_room (setting_of c.args.setting.now) c.in-Some.item c.items.strategy.room (moment_of c.items.scene (contents_in c.items.store)) (moment_of c.try_item.new.scene (contents_in c.try_item.new.store)) in
     record { left = room (Some c.in-Ok.tried) (sym c.has_item.ensures ∙ c.if-not-has_item.false, c.in-Ok.ensures.answer) }
 
 pub items-preserved-then-not-has_item : goal.items-preserved-then-not-has_item
@@ -36,7 +36,7 @@ items-preserved-then-not-has_item g c = record {
 
 -- what comes of an item that was tried
 came : (g : Over) (c : After-ending_of g) → ComesOfTurn (setting_of c.args.setting.now) (moment_of c.args.scene.now (contents_in c.args.store.now)) (moment_of c.try_item.new.scene (contents_in c.try_item.new.store))
-    c.in_ok-sweep.sweep c.next.new.self c.args.course.now.room c.record.new.left c.args.tally.now.picks c.record.new.tally.picks c.ending_of.result
+    c.in_ok-sweep.sweep c.next.new.self c.args.strategy.now.room c.record.new.left c.args.tally.now.picks c.record.new.tally.picks c.ending_of.result
 came g c =
     let item = c.in-Some.item in
     let counts = c.record.ensures.counts c.items.tally.picks item (c.in_ok-push.ensures.items ∙ ap (λ (y : Tally). y.picks ++ item ∷ []) c.tally.view_is) in

@@ -11,8 +11,8 @@ abbrev pub invariant-items : goal.invariant-items
 invariant-items g l =
     let first = moment_of l.initial.scene (contents_in l.initial.store) in
     record {
-      so_far : IsPassing (setting_of l.setting) first (moment_of l.scene (contents_in l.store)) l.initial.sweep l.sweep l.initial.course.room l.course.room l.initial.tally.picks l.tally.picks;
-      order : l.course.order ≡ l.initial.course.order;
+      so_far : IsPassing (setting_of l.setting) first (moment_of l.scene (contents_in l.store)) l.initial.sweep l.sweep l.initial.strategy.room l.strategy.room l.initial.tally.picks l.tally.picks;
+      order : l.strategy.order ≡ l.initial.strategy.order;
       waits : l.tally.waits ≡ l.initial.tally.waits;
       rests : l.tally.rests ≡ l.initial.tally.rests;
       kept : IsWellKept l.scene;

@@ -1,8 +1,8 @@
 use Rattle.std.proofs.Common.{sym, ap, ◌∙◌, ◌≡◌, ◌≢◌, ◌==◌, ◌<◌, ◌+◌, ℕ, List, count_by, length}
-use Rattle.tp_lex.specs.declared.token.Place.{Place}
+use Rattle.tp_lex.specs.declared.token.TextPlace.{TextPlace}
 use Rattle.tp_lex.specs.Place.{place_from}
 use Rattle.tp_lex.proofs.PlaceLemmas.{along_line, line_counted, line_shorter, behind_lines}
-use Rattle.tp_lex.proofs.token.Place.after.Goals as goal
+use Rattle.tp_lex.proofs.token.TextPlace.after.Goals as goal
 
 pub returns-then-lines-eq0-clause-place : goal.returns-then-lines-eq0-clause-place
 returns-then-lines-eq0-clause-place c =
@@ -11,7 +11,7 @@ returns-then-lines-eq0-clause-place c =
 
 pub returns-clause-place : goal.returns-clause-place
 returns-clause-place c =
-    let p : Place = c.args.self in
+    let p : TextPlace = c.args.self in
     let z : List ℕ = c.args.bytes.now in
     let r : ℕ = c.last_line_len.result in
     let some : count_by (λ x. x == 10) z ≢ 0 = λ none. c.if-lines-eq0.false (c.count_byte-lines.ensures ∙ none) in
