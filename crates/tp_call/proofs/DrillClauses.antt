@@ -8,10 +8,9 @@ use Rattle.tp_meaning.specs.Fits.{ProgramFits}
 use Rattle.tp_gen.specs.Source.{source_text}
 use Rattle.tp_show.specs.declared.turn.Picture.{Picture}
 use Rattle.tp_show.specs.declared.turn.Turn.{Turn}
-use Rattle.tp_run.specs.History.{RunEndsWith, Plan, plan_with, globals_of}
-use Rattle.tp_run.specs.Same.{SameEnd}
+use Rattle.tp_run.specs.History.{RunEndsWith, Plan, plan_with}
 use Rattle.tp_run_laws.specs.Agree.{IsOrderlyPlan}
-use Rattle.tp_run_laws.proofs.Agree.{runs_agree}
+use Rattle.tp_run_laws.proofs.AlikeRuns.{runs_agree}
 use Rattle.tp_words.specs.declared.mode.Mode.{Mode}
 use Rattle.tp_words.specs.declared.mode.Mode.TheVariants.{Run, Print, Convert, Check, Drill}
 use Rattle.tp_words.specs.Words.{Wanted, wanted_of}
@@ -150,18 +149,17 @@ module _ (words : List (List ℕ)) (old new : Option (List ℕ)) (before after :
 
   -- each run of it comes to the end of the drill's own
   comes_as : (size : ℕ) (plan own : Plan) → IsAskedToDrill words size plan → IsAskedToDrill words size own → ProgramFits own.program → (pictures : List Picture) (status : Status) → RunEnds own pictures status
-      → (others : List Picture) (end : Turn) → RunEndsWith plan others end → ComesTo (globals_of plan) end status
-  comes_as size plan own asked is fits pictures status run others end ends =
-      let same : plan ≡ own = one_drill size plan own asked is in
+      → (others : List Picture) (end : Turn) (ends : RunEndsWith plan others end) → ComesTo plan others end ends status
+  comes_as size plan own asked is fits pictures status run others end =
       let orderly : IsOrderlyPlan own = record { program = fits; inputs = no_input_within own.inputs is.inputs } in
-      let agree = runs_agree own orderly others end (subst (λ (p : Plan). RunEndsWith p others end) same ends) pictures run.answer run.run in
-      (run.answer, subst (λ (p : Plan). SameEnd (globals_of p) end run.answer) (sym same) agree.1, run.status_is)
+      subst (λ (p : Plan). (ends : RunEndsWith p others end) → ComesTo p others end ends status) (sym (one_drill size plan own asked is))
+      (λ ends. (pictures, run.answer, run.run, (runs_agree own orderly others end ends pictures run.answer run.run).1, run.status_is))
 
   pub drill_comes : (result : Status) → DrillSays words old new before after result → DrillComesToEachEnd words result
   drill_comes result says = λ size plan asked pictures end ends. by size plan asked pictures end ends (seen size result (says size asked.asks))
     where
-      by : (size : ℕ) (plan : Plan) (asked : IsAskedToDrill words size plan) (pictures : List Picture) (end : Turn) → RunEndsWith plan pictures end → DrillView size result
-          → DrillComesTo (globals_of plan) end result ⊎ (result ≡ WriteFault) ⊎ (result ≡ NoMemory)
+      by : (size : ℕ) (plan : Plan) (asked : IsAskedToDrill words size plan) (pictures : List Picture) (end : Turn) (ends : RunEndsWith plan pictures end) → DrillView size result
+          → DrillComesTo plan pictures end ends result ⊎ (result ≡ WriteFault) ⊎ (result ≡ NoMemory)
       by size plan asked pictures end ends (was_done text is f) =
           inl (inl (f.length, comes_as size plan f.plan asked f.asked f.fits f.pictures (Finished f.length) f.run pictures end ends, is))
       by size plan asked pictures end ends (was_stopped text s) =

@@ -6,12 +6,11 @@ use Rattle.tp_show.specs.declared.turn.Picture.{Picture}
 use Rattle.tp_show.specs.declared.turn.Turn.{Turn}
 use Rattle.tp_show.specs.declared.turn.Turn.TheVariants as turn
 use Rattle.tp_show.specs.Texts.{end_line}
-use Rattle.tp_run.specs.History.{RunEndsWith, Plan, globals_of}
+use Rattle.tp_run.specs.History.{RunEndsWith, Plan}
 use Rattle.tp_run_laws.specs.Agree.{IsOrderlyPlan}
 use Rattle.tp_run.specs.Same.{FailsNowhere}
 use Rattle.tp_run_laws.specs.Beginnings.{NoDeadEnd}
-use Rattle.tp_run_laws.proofs.Agree.{runs_agree}
-use Rattle.tp_run_laws.proofs.AlikeRuns.{all_runs_are_alike}
+use Rattle.tp_run_laws.proofs.AlikeRuns.{all_runs_are_alike, runs_agree}
 use Rattle.tp_run_laws.proofs.Beginnings.{beginnings_go_on}
 use Rattle.tp_words.specs.Words.{Wanted}
 use Rattle.tp_call.specs.declared.status.Status.{Status}
@@ -73,7 +72,8 @@ module _ (words : List (List ℕ)) (held : Option Held) (old new : Option (List 
       let wrote : Wrote old new (run_text asked.wanted.beside r.run) = subst
       (λ (w : Wanted). Wrote old new (run_text w.beside r.run)) wanted r.appended in
       let alike = all_runs_are_alike r.plan (orderly result r) pictures run.answer run.run r.pictures r.run.answer r.run.run in
-      let states = one_text asked.wanted.beside r.plan pictures run.answer run.run r.pictures r.run.answer r.run.run alike.states in
+      let states = one_text asked.wanted.beside r.plan pictures run.answer run.run r.pictures r.run.answer r.run.run alike in
+      let ends = (runs_agree r.plan (orderly result r) pictures run.answer run.run r.pictures r.run.answer r.run.run).1 in
       let line = end_line r.plan.program.globals (known_at_end r.run) r.plan.reductions r.run.answer in
       record {
         last = r.run.answer;
@@ -82,7 +82,7 @@ module _ (words : List (List ℕ)) (held : Option Held) (old new : Option (List 
         states = subst (λ (text : List ℕ). Wrote old new (text ++ line)) states wrote;
         whole = λ safe. subst (λ (text : List ℕ). Wrote old new text)
             (ap₂ (λ x y. x ++ y) states (one_end_line r.plan (known_at_end run)
-            (known_at_end r.run) r.plan.reductions run.answer r.run.answer safe alike.end)) wrote;
+            (known_at_end r.run) r.plan.reductions run.answer r.run.answer safe ends)) wrote;
       }
 
   text_of_each : (result : Status) → PrintsRun words held old new result
@@ -94,16 +94,18 @@ module _ (words : List (List ℕ)) (held : Option Held) (old new : Option (List 
       (sym (one_plan words held old new files told plan r.plan asked r.asked)) (text_of result r) asked
 
   -- each run comes to the end of the call
-  comes_there : (result : Status) (r : PrintsRun words held old new result) (pictures : List Picture) (end : Turn) → RunEndsWith r.plan pictures end
-      → ComesTo (globals_of r.plan) end result
+  comes_there : (result : Status) (r : PrintsRun words held old new result) (pictures : List Picture) (end : Turn) (run : RunEndsWith r.plan pictures end)
+      → ComesTo r.plan pictures end run result
   comes_there result r pictures end run = (
+    r.pictures,
     r.run.answer,
+    r.run.run,
     (runs_agree r.plan (orderly result r) pictures end run r.pictures r.run.answer r.run.run).1,
     r.run.status_is,
   )
 
   no_dead_end : (result : Status) (r : PrintsRun words held old new result) → FailsNowhere r.run.answer
-      → NoDeadEnd r.plan (λ other. ComesTo (globals_of r.plan) other result)
+      → NoDeadEnd r.plan (λ pictures other run. ComesTo r.plan pictures other run result)
   no_dead_end result r safe =
       let none = beginnings_go_on r.plan (orderly result r) r.pictures r.run.answer r.run.run safe in
       record {
@@ -124,9 +126,9 @@ module _ (words : List (List ℕ)) (held : Option Held) (old new : Option (List 
 
   none_for : (result : Status) → PrintsRun words held old new result → (plan : Plan) → IsAskedFor words held plan → (end : Turn)
       → status_of end ≡ Some result → FailsNowhere end
-      → NoDeadEnd plan (λ other. ComesTo (globals_of plan) other result)
+      → NoDeadEnd plan (λ pictures other run. ComesTo plan pictures other run result)
   none_for result r plan asked end is safe =
-      subst (λ (p : Plan). NoDeadEnd p (λ other. ComesTo (globals_of p) other result))
+      subst (λ (p : Plan). NoDeadEnd p (λ pictures other run. ComesTo p pictures other run result))
       (sym (one_plan words held old new files told plan r.plan asked r.asked))
       (no_dead_end result r (safe_end r.run.answer result r.run.status_is (safe_status end result is safe)))
 

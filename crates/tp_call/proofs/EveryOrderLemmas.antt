@@ -8,10 +8,10 @@ use Rattle.tp_meaning.specs.Inputs.{InputTable}
 use Rattle.tp_meaning.specs.Interval.{ProgramTree}
 use Rattle.tp_show.specs.declared.turn.Picture.{Picture}
 use Rattle.tp_show.specs.declared.turn.Turn.{Turn}
-use Rattle.tp_run.specs.History.{RunEndsWith, Plan, plan_with, globals_of}
-use Rattle.tp_run.specs.Same.{SamePictures, SameEnd}
+use Rattle.tp_run.specs.History.{RunEndsWith, Plan, plan_with}
+use Rattle.tp_run.specs.Same.{SamePictures}
 use Rattle.tp_run_laws.specs.Agree.{IsOrderlyPlan}
-use Rattle.tp_run_laws.proofs.Agree.{runs_agree}
+use Rattle.tp_run_laws.proofs.AlikeRuns.{runs_agree}
 use Rattle.tp_words.specs.Words.{Wanted}
 use Rattle.tp_call.specs.declared.status.Status.{Status}
 use Rattle.tp_call.specs.declared.status.Status.TheVariants.{Finished, Contradictory, Undetermined, StateLimit, ReductionLimit, NumberLimit, ListLimit, CallLimit, NestLimit, InputMissing}
@@ -82,15 +82,17 @@ module _ (words : List (List ℕ)) (held : Option Held) (old new : Option (List 
         ∙ ap (λ n. plan_with q.program q.inputs n p.reductions) states ∙ ap (plan_with q.program q.inputs q.states) reductions
 
     -- The call's run agrees with every other one.
-    with_run : (result : Status) → PrintsRun result → (plan : Plan) → IsAskedFor words held plan → (pictures : List Picture) (end : Turn) → RunEndsWith plan pictures end
-        → ComesTo (globals_of plan) end result × Prints words held old new result (λ p printed. SamePictures pictures printed)
-    with_run result run plan asked pictures end ends =
-        let same : plan ≡ run.plan = one_plan plan run.plan asked run.asked in
+    with_run : (result : Status) → PrintsRun result → (plan : Plan) → IsAskedFor words held plan → (pictures : List Picture) (end : Turn) (ends : RunEndsWith plan pictures end)
+        → ComesTo plan pictures end ends result × Prints words held old new result (λ p printed. SamePictures pictures printed)
+    with_run result run plan asked pictures end =
         let orderly : IsOrderlyPlan run.plan = record { program = run.fits; inputs = inputs_within run.asked.wanted.inputs run.plan.inputs run.asked.inputs } in
-        let agree = runs_agree run.plan orderly pictures end (subst (λ (p : Plan). RunEndsWith p pictures end) same ends) run.pictures run.run.answer run.run.run in (
-          (run.run.answer, subst (λ (p : Plan). SameEnd (globals_of p) end run.run.answer) (sym same) agree.1, run.run.status_is),
+        subst (λ (p : Plan). (ends : RunEndsWith p pictures end) → ComesTo p pictures end ends result × Prints words held old new result (λ q printed. SamePictures pictures printed))
+        (sym (one_plan plan run.plan asked run.asked))
+        (λ ends.
+        let agree = runs_agree run.plan orderly pictures end ends run.pictures run.run.answer run.run.run in (
+          (run.pictures, run.run.answer, run.run.run, agree.1, run.run.status_is),
           printed_so result (λ p printed. Unit {0}) (λ p printed. SamePictures pictures printed) run agree.0,
-        )
+        ))
 
   pub comes_to_each_end : (result : Status) → Answers words held old new result → ComesToEachEnd words held old new result
   comes_to_each_end result a = λ files told plan asked pictures end ends. elim (program_runs words held old new result a files told plan asked) [

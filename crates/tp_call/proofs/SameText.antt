@@ -17,8 +17,8 @@ use Rattle.tp_residual.specs.Residual.{trace_lines}
 use Rattle.tp_residual.proofs.OnePhrase.{alike_moments_have_one_phrase}
 use Rattle.tp_run.specs.History.{RunEndsWith, beginning_of, Plan, globals_of, StatesLead}
 use Rattle.tp_run.specs.SettledStates.{SettledState, led_states, settled_states}
-use Rattle.tp_run.specs.Same.{SamePicture, FailsNowhere}
-use Rattle.tp_run_laws.specs.AlikeRuns.{SameNext, SameStates, SameNamedCell, SameNamedEnd}
+use Rattle.tp_run.specs.Same.{SamePicture, SameCell, SameEnd, FailsNowhere}
+use Rattle.tp_run_laws.specs.AlikeRuns.{SameNext, SameStates}
 use Rattle.tp_run_laws.proofs.SameName.{named_cell_text}
 use Rattle.tp_call.specs.Run.{written_state, states_text, ended_text}
 use Rattle.tp_words.specs.declared.beside.Beside.{Beside}
@@ -82,13 +82,13 @@ one_text trace plan ps answer run qs other another h =
 
 -- The end line of ends that aren't failures.
 pub one_end_line : (plan : Plan) (xs ys : List Variable) (reductions : ℕ) (answer other : Turn) → FailsNowhere answer
-    → SameNamedEnd (globals_of plan) xs ys answer other
+    → SameEnd (globals_of plan) xs ys answer other
     → end_line plan.program.globals ys reductions other ≡ end_line plan.program.globals xs reductions answer
 one_end_line plan xs ys reductions turn.Went other safe same = absurd safe
 one_end_line plan xs ys reductions (turn.Finished n) other safe same = ap (end_line plan.program.globals ys reductions) same
 one_end_line plan xs ys reductions (turn.Contradictory state clash) other safe same = absurd safe
 one_end_line plan xs ys reductions (turn.Undetermined state cell) other safe same =
-    let named = subst (λ (k : ℕ). SameNamedCell k xs ys cell same.0) (length-map plan.program.globals is_lower) same.2 in
+    let named = subst (λ (k : ℕ). SameCell k xs ys cell same.0) (length-map plan.program.globals is_lower) same.2 in
     ap (end_line plan.program.globals ys reductions) same.1
     ∙ ap (λ text. (state_text (codes "undetermined") state ++ codes ": " ++ text) ++ codes "\n")
     (named_cell_text plan.program.globals xs ys cell same.0 named)

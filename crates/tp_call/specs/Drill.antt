@@ -7,7 +7,7 @@ use Rattle.tp_meaning.specs.Fits.{ProgramFits}
 use Rattle.tp_show.specs.declared.turn.Picture.{Picture}
 use Rattle.tp_show.specs.declared.turn.Turn.{Turn}
 use Rattle.tp_show.specs.Texts.{end_line}
-use Rattle.tp_run.specs.History.{Plan, globals_of, RunEndsWith, SatisfiedExactly, Satisfiable}
+use Rattle.tp_run.specs.History.{Plan, RunEndsWith, SatisfiedExactly, Satisfiable}
 use Rattle.tp_words.specs.declared.mode.Mode.TheVariants.{Drill}
 use Rattle.tp_words.specs.Words.{Wanted, wanted_of}
 use Rattle.tp_call.specs.declared.status.Status.{Status}
@@ -113,12 +113,13 @@ module _ (words : List (List ℕ)) (size : ℕ) (old new : Option (List ℕ)) (b
   DrillAnswers status =
       (text : List ℕ) × DrillEnds words size before after status text × Wrote old new text
 
--- The status comes to the end that some run has, as in the mode `run`, but that it is done where
--- this run finished.
-abbrev pub DrillComesTo : (globals : ℕ) → Turn → Status → Type 0
-DrillComesTo globals end status =
-    ((length : ℕ) × ComesTo globals end (Finished length) × (status ≡ Done))
-    ⊎ (((length : ℕ) → status ≢ Finished length) × ComesTo globals end status)
+-- The status comes to the end of this run, as in the mode `run`, but that it is done where this run
+-- finished.
+abbrev pub DrillComesTo : (plan : Plan) (pictures : List Picture) (end : Turn)
+    → RunEndsWith plan pictures end → Status → Type 0
+DrillComesTo plan pictures end run status =
+    ((length : ℕ) × ComesTo plan pictures end run (Finished length) × (status ≡ Done))
+    ⊎ (((length : ℕ) → status ≢ Finished length) × ComesTo plan pictures end run status)
 
 -- Of the words and of what was written before and after, with the count of tries.
 module _ (words : List (List ℕ)) (old new : Option (List ℕ)) (before after : ℕ)
@@ -135,5 +136,5 @@ module _ (words : List (List ℕ)) (result : Status) where
   abbrev pub DrillComesToEachEnd : Type 0
   DrillComesToEachEnd =
       (size : ℕ) (plan : Plan) → IsAskedToDrill words size plan → (pictures : List Picture)
-      (end : Turn) → RunEndsWith plan pictures end
-      → DrillComesTo (globals_of plan) end result ⊎ (result ≡ WriteFault) ⊎ (result ≡ NoMemory)
+      (end : Turn) (run : RunEndsWith plan pictures end)
+      → DrillComesTo plan pictures end run result ⊎ (result ≡ WriteFault) ⊎ (result ≡ NoMemory)

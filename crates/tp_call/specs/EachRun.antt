@@ -4,8 +4,8 @@ use Rattle.std.specs.Prelude.{◌≡◌, ◌⊎◌, ℕ, List, Option, Some, ◌
 use Rattle.tp_io.specs.Held.{Held}
 use Rattle.tp_show.specs.declared.turn.Picture.{Picture}
 use Rattle.tp_show.specs.declared.turn.Turn.{Turn}
-use Rattle.tp_run.specs.History.{RunEndsWith, Plan, globals_of}
-use Rattle.tp_run.specs.Same.{SamePictures, SameEnd, FailsNowhere}
+use Rattle.tp_run.specs.History.{RunEndsWith, Plan}
+use Rattle.tp_run.specs.Same.{SamePictures, EndTheSame, FailsNowhere}
 use Rattle.tp_call.specs.declared.status.Status.{Status}
 use Rattle.tp_call.specs.Run.{status_of, RunEnds, ended_text}
 use Rattle.tp_call.specs.Answer.{IsAskedFor, Prints, HasFailed, run_text}
@@ -15,12 +15,13 @@ use Rattle.tp_run_laws.specs.Beginnings.{NoDeadEnd}
 use Rattle.tp_call.specs.Files.{Wrote}
 use Rattle.tp_words.specs.declared.beside.Beside.{Beside}
 
--- The status comes to the end that some run has: it is that of a run which ends the same. So a cell
--- is the same up to the numbers of regions and locals, and where a state fails it is free which of
--- its failures is named.
-abbrev pub ComesTo : (globals : ℕ) → Turn → Status → Type 0
-ComesTo globals end status =
-    (answer : Turn) × SameEnd globals end answer × (status_of answer ≡ Some status)
+-- The status comes to the end of this run: it is that of a run which ends the same. So a cell has
+-- the same name, and where a state fails it is free which of its failures is named.
+abbrev pub ComesTo : (plan : Plan) (pictures : List Picture) (end : Turn)
+    → RunEndsWith plan pictures end → Status → Type 0
+ComesTo plan pictures end run status =
+    (own : List Picture) × (answer : Turn) × (other : RunEndsWith plan own answer)
+    × EndTheSame plan pictures end run own answer other × (status_of answer ≡ Some status)
 
 module _ (words : List (List ℕ)) (held : Option Held) (old new : Option (List ℕ))
     (result : Status) where
@@ -30,10 +31,9 @@ module _ (words : List (List ℕ)) (held : Option Held) (old new : Option (List 
   abbrev pub ComesToEachEnd : Type 0
   ComesToEachEnd =
       (files : Held) → held ≡ Some files → (plan : Plan) → IsAskedFor words held plan
-      → (pictures : List Picture) (end : Turn)
-      → RunEndsWith plan pictures end
-      → (ComesTo (globals_of plan) end result
-      × Prints words held old new result (λ run printed. SamePictures pictures printed))
+      → (pictures : List Picture) (end : Turn) (run : RunEndsWith plan pictures end)
+      → (ComesTo plan pictures end run result
+      × Prints words held old new result (λ p printed. SamePictures pictures printed))
       ⊎ HasFailed result
 
 -- What was appended is the text of the states of this run and the end line of an answer with this
@@ -67,4 +67,4 @@ module _ (words : List (List ℕ)) (held : Option Held) where
   BeginningsComeToEnd result =
       (files : Held) → held ≡ Some files → (plan : Plan) → IsAskedFor words held plan → (end : Turn)
       → status_of end ≡ Some result → FailsNowhere end
-      → NoDeadEnd plan (λ other. ComesTo (globals_of plan) other result)
+      → NoDeadEnd plan (λ pictures other run. ComesTo plan pictures other run result)

@@ -27,7 +27,7 @@ use Rattle.tp_step_laws.proofs.Orderly.{begins_orderly, advances_stay_orderly}
 use Rattle.tp_step_laws.proofs.Equivalence.{alike_is_equivalence}
 use Rattle.tp_step_laws.proofs.CloseOneWay.{leads_orderly, states_close_one_way}
 use Rattle.tp_step_laws.proofs.Rest.{one_rest_of}
-use Rattle.tp_run.specs.Same.{SamePicture, SamePictures, SameCell, FailsIn, SameEnd}
+use Rattle.tp_run.specs.Same.{SamePicture, SamePictures, SameCell, FailsIn}
 use Rattle.tp_run.specs.EachOrder.{StateAgrees, ClosesFromEach, HasNoDeadEnd}
 use Rattle.tp_run.proofs.SameFacts.{same_facts}
 
@@ -50,6 +50,16 @@ one_picture ps qs p q e f h = subst (λ (xs : List Picture). SamePictures xs qs)
 
 no_picture : (ps qs : List Picture) → ps ≡ [] → qs ≡ [] → SamePictures ps qs
 no_picture ps qs e f = subst (λ (xs : List Picture). SamePictures xs qs) (sym e) (subst (λ (ys : List Picture). SamePictures [] ys) (sym f) tt)
+
+-- The end of a state that begins alike, where the cell is left open.
+abbrev pub SameKind : Turn → Turn → Type 0
+SameKind Went turn = turn ≡ Went
+SameKind (Finished n) turn = turn ≡ Finished n
+SameKind (Contradictory state clash) turn = FailsIn state turn
+SameKind (Undetermined state cell) turn = (d : Cell) × (turn ≡ Undetermined state d)
+SameKind (StateLimit states) turn = turn ≡ StateLimit states
+SameKind (InputMissing state port) turn = FailsIn state turn
+SameKind (Over state l) turn = FailsIn state turn
 
 module _ (plan : Plan) where
   abbrev pub kinds : List Bool
@@ -102,8 +112,8 @@ module _ (plan : Plan) where
         reductions = y.reductions ∙ (one_way picks end c).count picks' end' c' ∙ sym x.reductions;
       }
 
-      same_cell : (cell cell' : Cell) → IsOpenCell (setting plan n) end cell → IsOpenCell (setting plan n) end' cell' → SameCell (length kinds) cell cell'
-      same_cell cell cell' h k = (end_alike.0, end_alike.1.globals_fixed, cell_by (setting plan n) end' (settled end'.scene) refl cell' (renamed_cell end_alike.0 cell) k (settle.open_too cell h))
+      pub same_cell : (cell cell' : Cell) → IsOpenCell (setting plan n) end cell → IsOpenCell (setting plan n) end' cell' → SameCell (length kinds) end.store.variables end'.store.variables cell cell'
+      same_cell cell cell' h k = (end_alike.0, end_alike.1.globals_fixed, end_alike.1.variables, cell_by (setting plan n) end' (settled end'.scene) refl cell' (renamed_cell end_alike.0 cell) k (settle.open_too cell h))
 
     -- where one goes on, the other doesn't end
     pub cant_go : (tail : List Picture) (turn : Turn) → EndsAt n m tail turn → (q : Picture) (next : Moment) → StateGoesOn plan n m' q next → ⊥
@@ -130,7 +140,7 @@ module _ (plan : Plan) where
     fails never l tail' (Over state k) y = (y.0, y.2)
 
     abbrev Same : List Picture → Turn → List Picture → Turn → Type 0
-    Same tail turn tail' turn' = SamePictures tail tail' × SameEnd (length kinds) turn turn'
+    Same tail turn tail' turn' = SamePictures tail tail' × SameKind turn turn'
 
     finishes : (tail : List Picture) (k : ℕ) → EndsAt n m tail (Finished k) → (tail' : List Picture) (turn' : Turn) → EndsAt n m' tail' turn' → Same tail (Finished k) tail' turn'
     finishes tail k x tail' Went y = absurd y
@@ -154,7 +164,7 @@ module _ (plan : Plan) where
     opens tail state cell x tail' (Contradictory state' clash) y = absurd ((one_way x.1.picks x.1.last x.1.closes).no_clash clash y.1)
     opens tail state cell x tail' (Undetermined state' cell') y = (
       no_picture tail tail' x.0 y.0,
-      (cell', ap (λ k. Undetermined k cell') (y.2 ∙ sym x.2), same_cell x.1.picks x.1.last y.1.picks y.1.last x.1.closes y.1.closes cell cell' x.1.cell_is y.1.cell_is),
+      (cell', ap (λ k. Undetermined k cell') (y.2 ∙ sym x.2)),
     )
     opens tail state cell x tail' (StateLimit states) y = let l = x.3 in let e = y.2 in absurd (omega (arith, l, e))
     opens tail state cell x tail' (InputMissing state' port) y = absurd ((one_way x.1.picks x.1.last x.1.closes).no_missing port y.1)
@@ -235,6 +245,17 @@ module _ (plan : Plan) where
     none_close (InputMissing state port) h f picks end c = (one_way n m m om om same picks end c).no_missing port h.0
     none_close (Over state l) h f picks end c = within_limit n m (length kinds) (length picks) end l (one_way n m m om om same picks end c) h.0
 
+    open_there : (cell : Cell) → n < plan.states → (x : replay.IsOpen (setting plan n) plan.reductions m cell) → (tail : List Picture) (turn : Turn) → EndsAt n m tail turn
+        → (d : Cell) × (turn ≡ Undetermined n d) × ((own : replay.IsOpen (setting plan n) plan.reductions m d) × SameCell (length kinds) x.last.store.variables own.last.store.variables cell d)
+    open_there cell l x tail Went y = absurd y
+    open_there cell l x tail (Finished k) y = let e = (opens n m m om om same [] n cell (refl, x, refl, l) tail (Finished k) y).1.1 in absurd (cc)
+    open_there cell l x tail (Contradictory state clash) y = let e = (opens n m m om om same [] n cell (refl, x, refl, l) tail (Contradictory state clash) y).1.1 in absurd (cc)
+    open_there cell l x tail (Undetermined state d) y =
+        (d, ap (λ k. Undetermined k d) y.2, (y.1, same_cell n m m om om same x.picks x.last y.1.picks y.1.last x.closes y.1.closes cell d x.cell_is y.1.cell_is))
+    open_there cell l x tail (StateLimit states) y = let e = (opens n m m om om same [] n cell (refl, x, refl, l) tail (StateLimit states) y).1.1 in absurd (cc)
+    open_there cell l x tail (InputMissing state port) y = let e = (opens n m m om om same [] n cell (refl, x, refl, l) tail (InputMissing state port) y).1.1 in absurd (cc)
+    open_there cell l x tail (Over state limit) y = let e = (opens n m m om om same [] n cell (refl, x, refl, l) tail (Over state limit) y).1.1 in absurd (cc)
+
     -- each order comes to the state's answer
     pub state_agrees : (turn : Turn) → Becomes turn → StateAgrees plan n m new turn
     state_agrees turn b = record {
@@ -248,7 +269,7 @@ module _ (plan : Plan) where
       ];
       is_open = λ cell l x. elim (becomes turn b) [
         | inl y ↦ absurd (cant_go n m m om om same [] (Undetermined n cell) (refl, x, refl, l) new y.1.0 y.1.1)
-        | inr y ↦ (opens n m m om om same [] n cell (refl, x, refl, l) (tail_of new turn) turn y).1
+        | inr y ↦ open_there cell l x (tail_of new turn) turn y
       ];
       fails = none_close turn b;
     }

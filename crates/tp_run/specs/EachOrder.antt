@@ -14,15 +14,17 @@ use Rattle.tp_run.specs.Same.{SamePicture, SameCell, FailsIn}
 
 -- This answer for state n, which begins with m, and this picture are what any picks come to: where
 -- some settle the state, it is settled, with the same picture; where some leave it open at a cell,
--- it is open there, up to the numbers of regions and locals; and where it fails, none close it.
+-- it is open at a cell of the same name; and where it fails, none close it.
 pub record StateAgrees (plan : Plan) (n : ℕ) (m : Moment) (new : Picture)
     (turn : Turn) : Type 0 where
   pub goes : (p : Picture) (after : Moment) → StateGoesOn plan n m p after
       → (turn ≡ Went) × SamePicture p new
   pub ends : (p : Picture) → StateEnds plan n m p → (turn ≡ Finished n) × SamePicture p new
   pub is_open : (cell : Cell) → n < plan.states
-      → IsOpen (setting plan n) plan.reductions m cell
-      → (d : Cell) × (turn ≡ Undetermined n d) × SameCell (globals_of plan) cell d
+      → (some : IsOpen (setting plan n) plan.reductions m cell)
+      → (d : Cell) × (turn ≡ Undetermined n d)
+      × ((own : IsOpen (setting plan n) plan.reductions m d)
+      × SameCell (globals_of plan) some.last.store.variables own.last.store.variables cell d)
   pub fails : FailsIn n turn
       → (picks : List ℕ) (end : Moment) → ¬ Closes (setting plan n) plan.reductions m picks end
 

@@ -1,4 +1,4 @@
--- Two runs have the same pictures and the same end.
+-- Two runs have the same pictures, and ends of one kind.
 use Rattle.std.proofs.Common.{◌≡◌, ℕ, ◌<◌, List, [], ◌∷◌, ◌++◌, length, refl, sym, ◌∙◌, subst, arith, append-nil}
 use Rattle.tp_scene.specs.Pick.{Moment}
 use Rattle.tp_scene.specs.Replay as replay
@@ -6,9 +6,9 @@ use Rattle.tp_show.specs.declared.turn.Picture.{Picture}
 use Rattle.tp_show.specs.declared.turn.Turn.{Turn}
 use Rattle.tp_show.specs.declared.turn.Turn.TheVariants.{Went, Finished, Contradictory, Undetermined, StateLimit, InputMissing, Over}
 use Rattle.tp_run.specs.History.{RunEndsWith, beginning_of, Plan, setting, LeadsTo, ReachesLimit}
-use Rattle.tp_run.specs.Same.{SamePictures, SameEnd}
-use Rattle.tp_run.proofs.OneState.{kinds, EndsAt, first_orderly, itself}
-use Rattle.tp_run_laws.specs.Agree.{IsOrderlyPlan, RunsAgree}
+use Rattle.tp_run.specs.Same.{SamePictures}
+use Rattle.tp_run.proofs.OneState.{SameKind, EndsAt, first_orderly, itself}
+use Rattle.tp_run_laws.specs.Agree.{IsOrderlyPlan}
 use Rattle.tp_run_laws.proofs.Walk.{Walked, walked, same_ends, pictures_join}
 
 module _ (plan : Plan) where
@@ -46,18 +46,15 @@ module _ (plan : Plan) where
         (itself plan 0 (beginning_of plan) begins) mine.leads theirs.leads
         (length mine.before) (length theirs.before) (omega arith) (omega arith) mine.tail turn mine.end theirs.tail other theirs.end
 
-    pub both_end : SamePictures mine.tail theirs.tail × SameEnd (length (kinds plan)) turn other
+    pub both_end : SamePictures mine.tail theirs.tail × SameKind turn other
     both_end =
         same_ends plan 0 (beginning_of plan) (beginning_of plan) mine.before theirs.before mine.moment theirs.moment mine.leads theirs.leads (length mine.before) (length theirs.before)
         (sym walk_both.count) walk_both mine.tail turn mine.end theirs.tail other theirs.end
 
-    pub agree : SamePictures ps qs × SameEnd (length (kinds plan)) turn other
+    pub agree : SamePictures ps qs × SameKind turn other
     agree = (
       subst (λ (zs : List Picture). SamePictures zs qs) (sym mine.pictures)
           (subst (λ (zs : List Picture). SamePictures (mine.before ++ mine.tail) zs) (sym theirs.pictures)
           (pictures_join mine.before theirs.before mine.tail theirs.tail walk_both.pictures both_end.0)),
       both_end.1,
     )
-
-pub runs_agree : (plan : Plan) → RunsAgree plan
-runs_agree plan o ps turn h qs other k = agree plan o ps turn h qs other k

@@ -1,20 +1,18 @@
--- The states of two runs are alike, and their ends have the same name.
+-- The states of two runs are alike, and they end the same.
 use Rattle.std.proofs.Common.{◌≡◌, ℕ, List, [], ◌∷◌, ◌++◌, map, length, refl, ap, sym, subst, append-nil}
 use Rattle.tp_scene.specs.declared.answer.Cell.{Cell}
 use Rattle.tp_scene.specs.Pick.{Moment}
-use Rattle.tp_scene.specs.Rest.{settled}
 use Rattle.tp_scene.specs.Replay.{IsOpen}
 use Rattle.tp_show.specs.declared.turn.Picture.{Picture}
 use Rattle.tp_show.specs.declared.turn.Turn.{Turn}
 use Rattle.tp_show.specs.declared.turn.Turn.TheVariants.{Went, Finished, Contradictory, Undetermined, StateLimit, InputMissing, Over}
-use Rattle.tp_run.specs.History.{RunEndsWith, end_store, beginning_of, Plan, globals_of, setting}
+use Rattle.tp_run.specs.History.{RunEndsWith, beginning_of, Plan, setting}
 use Rattle.tp_run.specs.SettledStates.{SettledState, settled_last, led_states, settled_states}
-use Rattle.tp_step_laws.specs.Maps.{renamed_cell}
 use Rattle.tp_step_laws.specs.Alike.{Alike}
-use Rattle.tp_run.specs.Same.{SamePictures, SameEnd}
-use Rattle.tp_run_laws.specs.Agree.{IsOrderlyPlan}
-use Rattle.tp_run_laws.specs.AlikeRuns.{SameStates, SameNamedCell, SameNamedEnd, AllRunsAreAlike}
-use Rattle.tp_run.proofs.OneState.{kinds, Orderly, cell_by, end_alike, settle}
+use Rattle.tp_run.specs.Same.{SamePictures, SameCell, EndTheSame}
+use Rattle.tp_run_laws.specs.Agree.{IsOrderlyPlan, RunsAgree}
+use Rattle.tp_run_laws.specs.AlikeRuns.{SameStates, AllRunsAreAlike}
+use Rattle.tp_run.proofs.OneState.{SameKind, kinds, Orderly, same_cell}
 use Rattle.tp_run_laws.proofs.Walk.{Walked}
 use Rattle.tp_run_laws.proofs.Agree.{Parts, parts, agree, both_end, walk_both}
 
@@ -47,17 +45,11 @@ module _ (plan : Plan) where
   -- the cells at which a state is open that begins alike
   named_cell : (n k : ℕ) (e : n ≡ k) (m m' : Moment) → Orderly plan n m → Orderly plan n m' → Alike (length (kinds plan)) m m'
       → (cell cell' : Cell) (x : IsOpen (setting plan n) plan.reductions m cell) (y : IsOpen (setting plan k) plan.reductions m' cell')
-      → SameNamedCell (length (kinds plan)) x.last.store.variables y.last.store.variables cell cell'
+      → SameCell (length (kinds plan)) x.last.store.variables y.last.store.variables cell cell'
   named_cell n k e m m' om om' a cell cell' x =
       subst (λ (i : ℕ). (y : IsOpen (setting plan i) plan.reductions m' cell')
-      → SameNamedCell (length (kinds plan)) x.last.store.variables y.last.store.variables cell cell') e (λ y.
-      let b = end_alike plan n m m' om om' a x.picks x.last y.picks y.last x.closes y.closes in
-      let s = settle plan n m m' om om' a x.picks x.last y.picks y.last x.closes y.closes in (
-        b.0,
-        b.1.globals_fixed,
-        b.1.variables,
-        cell_by (setting plan n) y.last (settled y.last.scene) refl cell' (renamed_cell b.0 cell) y.cell_is (s.open_too cell x.cell_is),
-      ))
+      → SameCell (length (kinds plan)) x.last.store.variables y.last.store.variables cell cell') e (λ y.
+      same_cell plan n m m' om om' a x.picks x.last y.picks y.last x.closes y.closes cell cell' x.cell_is y.cell_is)
 
   module _ (plan_orderly : IsOrderlyPlan plan) (ps : List Picture) (turn : Turn) (run : RunEndsWith plan ps turn) (qs : List Picture) (other : Turn)
       (another : RunEndsWith plan qs other) where
@@ -67,7 +59,7 @@ module _ (plan : Plan) where
     abbrev other_parts : Parts plan qs other
     other_parts = parts plan qs other another
 
-    both : SamePictures ps qs × SameEnd (length (kinds plan)) turn other
+    both : SamePictures ps qs × SameKind turn other
     both = agree plan plan_orderly ps turn run qs other another
 
     walk : Walked plan 0 (beginning_of plan) (beginning_of plan) run_parts.before other_parts.before run_parts.moment other_parts.moment run_parts.leads
@@ -86,8 +78,7 @@ module _ (plan : Plan) where
   open_ends : IsOrderlyPlan plan
       → (ps : List Picture) (state : ℕ) (cell : Cell) (run : RunEndsWith plan ps (Undetermined state cell)) (qs : List Picture) (other : Turn)
       (another : RunEndsWith plan qs other)
-      → SameNamedEnd (globals_of plan) (end_store plan ps (Undetermined state cell) run).variables (end_store plan qs other another).variables
-      (Undetermined state cell) other
+      → EndTheSame plan ps (Undetermined state cell) run qs other another
   open_ends o ps state cell run qs Went another = absurd another
   open_ends o ps state cell run qs (Finished n) another = let same = (both o ps (Undetermined state cell) run qs (Finished n) another).1.1 in absurd
       (cc)
@@ -106,19 +97,19 @@ module _ (plan : Plan) where
   open_ends o ps state cell run qs (Over state' l) another = let same =
       (both o ps (Undetermined state cell) run qs (Over state' l) another).1.1 in absurd (cc)
 
-  named_end : IsOrderlyPlan plan
+  pub same_end : IsOrderlyPlan plan
       → (ps : List Picture) (turn : Turn) (run : RunEndsWith plan ps turn) (qs : List Picture) (other : Turn) (another : RunEndsWith plan qs other)
-      → SameNamedEnd (globals_of plan) (end_store plan ps turn run).variables (end_store plan qs other another).variables turn other
-  named_end o ps Went run qs other another = absurd run
-  named_end o ps (Finished n) run qs other another = (both o ps (Finished n) run qs other another).1
-  named_end o ps (Contradictory state clash) run qs other another = (both o ps (Contradictory state clash) run qs other another).1
-  named_end o ps (Undetermined state cell) run qs other another = open_ends o ps state cell run qs other another
-  named_end o ps (StateLimit states) run qs other another = (both o ps (StateLimit states) run qs other another).1
-  named_end o ps (InputMissing state port) run qs other another = (both o ps (InputMissing state port) run qs other another).1
-  named_end o ps (Over state l) run qs other another = (both o ps (Over state l) run qs other another).1
+      → EndTheSame plan ps turn run qs other another
+  same_end o ps Went run qs other another = absurd run
+  same_end o ps (Finished n) run qs other another = (both o ps (Finished n) run qs other another).1
+  same_end o ps (Contradictory state clash) run qs other another = (both o ps (Contradictory state clash) run qs other another).1
+  same_end o ps (Undetermined state cell) run qs other another = open_ends o ps state cell run qs other another
+  same_end o ps (StateLimit states) run qs other another = (both o ps (StateLimit states) run qs other another).1
+  same_end o ps (InputMissing state port) run qs other another = (both o ps (InputMissing state port) run qs other another).1
+  same_end o ps (Over state l) run qs other another = (both o ps (Over state l) run qs other another).1
 
 pub all_runs_are_alike : (plan : Plan) → AllRunsAreAlike plan
-all_runs_are_alike plan o ps turn run qs other another = record {
-  states = all_states plan o ps turn run qs other another;
-  end = named_end plan o ps turn run qs other another;
-}
+all_runs_are_alike plan o ps turn run qs other another = all_states plan o ps turn run qs other another
+
+pub runs_agree : (plan : Plan) → RunsAgree plan
+runs_agree plan o ps turn run qs other another = ((agree plan o ps turn run qs other another).0, same_end plan o ps turn run qs other another)

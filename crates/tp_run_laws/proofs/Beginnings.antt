@@ -11,18 +11,19 @@ use Rattle.tp_step.proofs.Picks.{leads_on}
 use Rattle.tp_show.specs.declared.turn.Picture.{Picture}
 use Rattle.tp_show.specs.declared.turn.Turn.{Turn}
 use Rattle.tp_show.specs.declared.turn.Turn.TheVariants.{Went, Finished, Contradictory, Undetermined, StateLimit, InputMissing, Over}
-use Rattle.tp_run.specs.History.{RunEndsWith, picks_led, beginning_of, picks_before, picks_of_run, Plan, globals_of, setting, IsPictureOf, StateGoesOn, StateEnds, StatesLead, LeadsTo}
+use Rattle.tp_run.specs.History.{RunEndsWith, picks_led, beginning_of, picks_before, picks_of_run, Plan, setting, IsPictureOf, StateGoesOn, StateEnds, StatesLead, LeadsTo}
 use Rattle.tp_step_laws.specs.Maps.{renamed_cell}
 use Rattle.tp_step_laws.specs.Alike.{Alike}
 use Rattle.tp_step_laws.proofs.AdvanceAlike.{alike_moments_advance}
 use Rattle.tp_step_laws.proofs.CloseOneWay.{leads_orderly}
 use Rattle.tp_step_laws.proofs.Rest.{one_rest_of}
-use Rattle.tp_run.specs.Same.{SameEnd, FailsNowhere}
+use Rattle.tp_run.specs.Same.{EndTheSame, FailsNowhere}
 use Rattle.tp_run_laws.specs.Agree.{IsOrderlyPlan}
 use Rattle.tp_run_laws.specs.Beginnings.{RunGoesOnFrom, BeginningsGoOn}
-use Rattle.tp_run.proofs.OneState.{kinds, Orderly, ClosesBy, EndsAt, one_way, end_alike, settle, cant_go, next_orderly, first_orderly, itself}
+use Rattle.tp_run.proofs.OneState.{SameKind, kinds, Orderly, ClosesBy, EndsAt, one_way, end_alike, settle, cant_go, next_orderly, first_orderly, itself}
 use Rattle.tp_run_laws.proofs.Walk.{end_at}
 use Rattle.tp_run_laws.proofs.Agree.{Parts, parts, agree}
+use Rattle.tp_run_laws.proofs.AlikeRuns.{same_end}
 
 -- the store with which the next state may begin
 next_store : Contents → Contents
@@ -363,14 +364,14 @@ module _ (plan : Plan) where
       subst (λ (i : ℕ). (x : EndsAt plan i last tail turn) → Whole before last leads tail turn (last_picks i last tail turn safe x)) (sym e)
       (whole_here before last leads tail turn safe)
 
-  fails_nowhere_too : (globals : ℕ) (turn other : Turn) → FailsNowhere turn → SameEnd globals turn other → FailsNowhere other
-  fails_nowhere_too globals Went other safe same = absurd safe
-  fails_nowhere_too globals (Finished n) other safe same = subst FailsNowhere (sym same) tt
-  fails_nowhere_too globals (Contradictory state clash) other safe same = absurd safe
-  fails_nowhere_too globals (Undetermined state cell) other safe same = subst FailsNowhere (sym same.1) tt
-  fails_nowhere_too globals (StateLimit states) other safe same = subst FailsNowhere (sym same) tt
-  fails_nowhere_too globals (InputMissing state port) other safe same = absurd safe
-  fails_nowhere_too globals (Over state l) other safe same = absurd safe
+  fails_nowhere_too : (turn other : Turn) → FailsNowhere turn → SameKind turn other → FailsNowhere other
+  fails_nowhere_too Went other safe same = absurd safe
+  fails_nowhere_too (Finished n) other safe same = subst FailsNowhere (sym same) tt
+  fails_nowhere_too (Contradictory state clash) other safe same = absurd safe
+  fails_nowhere_too (Undetermined state cell) other safe same = subst FailsNowhere (sym same.1) tt
+  fails_nowhere_too (StateLimit states) other safe same = subst FailsNowhere (sym same) tt
+  fails_nowhere_too (InputMissing state port) other safe same = absurd safe
+  fails_nowhere_too (Over state l) other safe same = absurd safe
 
   module _ (o : IsOrderlyPlan plan) (ps : List Picture) (turn : Turn) (run : RunEndsWith plan ps turn) (safe : FailsNowhere turn) where
     abbrev mine : Parts plan ps turn
@@ -389,7 +390,7 @@ module _ (plan : Plan) where
       on = onward aligned.rest (length qs) aligned.at m mine.moment aligned.orderly aligned.orderly' aligned.alike aligned.leads
           (length mine.before) aligned.counts mine.tail turn safe mine.end l begun there led
 
-      goes_on : RunGoesOnFrom plan qs (picks_before plan qs m leads) begun (λ end. SameEnd (globals_of plan) turn end)
+      goes_on : RunGoesOnFrom plan qs (picks_before plan qs m leads) begun (EndTheSame plan ps turn run)
       goes_on =
           let f = on.further in
           let c = f.counts in
@@ -407,11 +408,11 @@ module _ (plan : Plan) where
                 ∙ append_assoc (picks_before plan qs m leads) (picks_led plan (length qs) m f.before f.last f.leads)
                 (last_picks f.count f.last f.tail f.turn f.safe f.end)
                 ∙ ap (λ xs. picks_before plan qs m leads ++ xs) on.picks;
-            comes_to = (agree plan o ps turn run w.pictures f.turn w.run).1;
+            comes_to = same_end plan o ps turn run w.pictures f.turn w.run;
           }
 
 pub beginnings_go_on : (plan : Plan) → BeginningsGoOn plan
 beginnings_go_on plan o ps turn run safe = record {
   run_goes_on = λ qs m leads l begun there led. goes_on plan o ps turn run safe qs m leads l begun there led;
-  no_failure = λ qs other another. fails_nowhere_too plan (globals_of plan) turn other safe (agree plan o ps turn run qs other another).1;
+  no_failure = λ qs other another. fails_nowhere_too plan turn other safe (agree plan o ps turn run qs other another).1;
 }

@@ -9,7 +9,7 @@ use Rattle.tp_scene.specs.declared.answer.Cell.{Cell}
 use Rattle.tp_scene.specs.declared.answer.Cell.TheVariants.{Part, End}
 use Rattle.tp_show.specs.Texts.{global_name, index_text, variable_text, cell_text}
 use Rattle.tp_step_laws.specs.Maps.{Renaming, FixesBelow, renamed_variable, renamed_cell}
-use Rattle.tp_run_laws.specs.AlikeRuns.{SameNamedCell}
+use Rattle.tp_run.specs.Same.{SameCell}
 
 -- The name of a variable, renamed.
 module _ (globals : List (List ℕ)) (xs ys : List Variable) (ρ : Renaming) (fixed : FixesBelow (length globals) ρ.local)
@@ -43,6 +43,6 @@ module _ (globals : List (List ℕ)) (xs ys : List Variable) (ρ : Renaming) (fi
   cell_same (Part p) = ap (λ text. text ++ flat_map index_text p.at) (variable_same p.var)
   cell_same (End region depth) = refl
 
-pub named_cell_text : (globals : List (List ℕ)) (xs ys : List Variable) (c d : Cell) → SameNamedCell (length globals) xs ys c d
+pub named_cell_text : (globals : List (List ℕ)) (xs ys : List Variable) (c d : Cell) → SameCell (length globals) xs ys c d
     → cell_text globals ys d ≡ cell_text globals xs c
 named_cell_text globals xs ys c d h = ap (cell_text globals ys) h.3 ∙ cell_same globals xs ys h.0 h.1 h.2 c

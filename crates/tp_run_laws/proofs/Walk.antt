@@ -3,10 +3,10 @@ use Rattle.std.proofs.Common.{◌≡◌, ℕ, suc, ◌+◌, List, [], ◌∷◌,
 use Rattle.tp_scene.specs.Pick.{Moment}
 use Rattle.tp_show.specs.declared.turn.Picture.{Picture}
 use Rattle.tp_show.specs.declared.turn.Turn.{Turn}
-use Rattle.tp_run.specs.Same.{SamePictures, SameEnd}
+use Rattle.tp_run.specs.Same.{SamePictures}
 use Rattle.tp_run.specs.SettledStates.{led_states}
 use Rattle.tp_run.specs.History.{Plan, setting, StatesLead}
-use Rattle.tp_run.proofs.OneState.{kinds, Orderly, EndsAt, end_alike, end_same, same_picture, cant_go, next_orderly}
+use Rattle.tp_run.proofs.OneState.{SameKind, kinds, Orderly, EndsAt, end_alike, end_same, same_picture, cant_go, next_orderly}
 use Rattle.tp_step_laws.specs.Alike.{Alike}
 use Rattle.tp_step_laws.proofs.AdvanceAlike.{alike_moments_advance}
 use Rattle.tp_step_laws.proofs.Equivalence.{alike_is_equivalence}
@@ -68,11 +68,11 @@ module _ (plan : Plan) where
         alike = r.alike;
       }
 
-  -- they end in the same way
+  -- they end in ways of one kind
   pub same_ends : (n : ℕ) (m m' : Moment) (ps qs : List Picture) (last last' : Moment) (leads : StatesLead plan n m ps last) (leads' : StatesLead plan n m' qs last') (k k' : ℕ)
       → k' ≡ k → Walked n m m' ps qs last last' leads leads' k
       → (tail : List Picture) (turn : Turn) → EndsAt plan k last tail turn → (tail' : List Picture) (turn' : Turn) → EndsAt plan k' last' tail' turn'
-      → SamePictures tail tail' × SameEnd (length (kinds plan)) turn turn'
+      → SamePictures tail tail' × SameKind turn turn'
   same_ends n m m' ps qs last last' leads leads' k k' e w tail turn x tail' turn' y =
       end_same plan k last last' w.orderly w.orderly' w.alike tail turn x tail' turn' (subst (λ (i : ℕ). EndsAt plan i last' tail' turn') e y)
 

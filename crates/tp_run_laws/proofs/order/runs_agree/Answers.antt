@@ -1,4 +1,4 @@
-use Rattle.tp_run_laws.proofs.Agree.{runs_agree as law}
+use Rattle.tp_run_laws.proofs.AlikeRuns.{runs_agree as law}
 use Rattle.tp_run_laws.proofs.order.runs_agree.Goals as goal
 
 pub returns : goal.returns
