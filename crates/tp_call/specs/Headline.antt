@@ -5,11 +5,8 @@ use Rattle.tp_io.specs.Held.{Held}
 use Rattle.tp_scene.specs.declared.answer.Cell.{Cell}
 use Rattle.tp_scene.specs.declared.answer.Clash.{Clash}
 use Rattle.tp_run.specs.History.{SatisfiedExactly, Satisfiable, Unsatisfiable, ContinuesEach, Plan}
-use Rattle.tp_call.specs.declared.status.Refused.{Refused}
 use Rattle.tp_call.specs.declared.status.Status.{Status}
-use Rattle.tp_call.specs.declared.status.Status.TheVariants.{Finished, Done, Contradictory, Undetermined, StateLimit, InputMissing, SourceRefused, InputsRefused, WordsRefused, TooLong, OtherRefused, TraceTooLong}
-use Rattle.tp_call.specs.declared.status.SourceKind.{SourceKind}
-use Rattle.tp_call.specs.declared.status.Which.{Which}
+use Rattle.tp_call.specs.declared.status.Status.TheVariants.{Finished, Done, Contradictory, Undetermined, StateLimit, InputMissing, InputsRefused, WordsRefused, TooLong, OtherRefused, TraceTooLong}
 use Rattle.tp_call.specs.declared.status.Which.TheVariants.{Source, Inputs, Other}
 use Rattle.tp_tree.specs.Tree.{SourceTree}
 use Rattle.tp_meaning.specs.Inputs.{InputTable}
@@ -87,6 +84,14 @@ module _ (words : List (List ℕ)) (held : Option Held) (old new : Option (List 
       × Wrote old new text)
       ⊎ WritesVerdict words held old new
 
+-- A status is answered exactly where what it tells of is so: it is so, as far as the files tell; and
+-- where they tell that it is so, this is answered, unless a read or a write fails or memory is
+-- wanted.
+pub record AnsweredExactly {A : Type 0} (held : Option Held) (result : Status)
+    (status : A → Status) (IsSo : A → ((Held → Type 0) → Type 0) → Type 0) : Type 0 where
+  pub only : (a : A) → result ≡ status a → IsSo a (WhereTold held)
+  pub there : (a : A) → IsSo a (AsTold held) → IsOrFailed (status a) result
+
 -- Of the words, of what the files hold, and of the status.
 module _ (words : List (List ℕ)) (held : Option Held) (result : Status) where
   -- Where the source is a program and the inputs are a table, the run ends in one of the ways
@@ -126,43 +131,32 @@ module _ (words : List (List ℕ)) (held : Option Held) (result : Status) where
 
   -- A file is too long exactly where it has more bytes than it may have, and the files that are
   -- read before it serve what is to be done with it.
-  pub record TooLongExactly : Type 0 where
-    pub only : (which : Which) → result ≡ TooLong which
-        → ReadsFile words (WhereTold held) which (λ mode. IsPastLimit which)
-    pub there : (which : Which) → ReadsFile words (AsTold held) which (λ mode. IsPastLimit which)
-        → IsOrFailed (TooLong which) result
+  abbrev pub TooLongExactly : Type 0
+  TooLongExactly = AnsweredExactly held result TooLong
+      (λ which Tells. ReadsFile words Tells which (λ mode. IsPastLimit which))
 
   -- The source is refused exactly where it is no program, in the mode `print` where it is no source
   -- of the grammar, and in the mode `check` where it is no wider formula: there and for the cause
   -- that its grammar names first, or for a program or a wider formula after it the rules of
   -- positions.
-  pub record SourceRefusedExactly : Type 0 where
-    pub only : (line column : ℕ) (kind : SourceKind) → result ≡ SourceRefused line column kind
-        → ReadsFile words (WhereTold held) Source
-        (HoldsRefused (record { line = line; column = column; kind = kind }))
-    pub there : (refused : Refused) → ReadsFile words (AsTold held) Source (HoldsRefused refused)
-        → IsOrFailed (refused_status refused) result
+  abbrev pub SourceRefusedExactly : Type 0
+  SourceRefusedExactly = AnsweredExactly held result refused_status
+      (λ refused Tells. ReadsFile words Tells Source (HoldsRefused refused))
 
   -- The inputs of a source that is a program, or those that are to be converted, are refused
   -- exactly where they are no table, at the first line that is at fault.
-  pub record InputsRefusedExactly : Type 0 where
-    pub only : (line : ℕ) → result ≡ InputsRefused line
-        → ReadsFile words (WhereTold held) Inputs (λ mode. HasBadLine line)
-    pub there : (line : ℕ) → ReadsFile words (AsTold held) Inputs (λ mode. HasBadLine line)
-        → IsOrFailed (InputsRefused line) result
+  abbrev pub InputsRefusedExactly : Type 0
+  InputsRefusedExactly = AnsweredExactly held result InputsRefused
+      (λ line Tells. ReadsFile words Tells Inputs (λ mode. HasBadLine line))
 
   -- The other file of a source that is a wider formula is refused exactly where it is no trace, at
   -- the first line that isn't allowed.
-  pub record OtherRefusedExactly : Type 0 where
-    pub only : (line : ℕ) → result ≡ OtherRefused line
-        → ReadsFile words (WhereTold held) Other (λ mode. HasBadTraceLine line)
-    pub there : (line : ℕ) → ReadsFile words (AsTold held) Other (λ mode. HasBadTraceLine line)
-        → IsOrFailed (OtherRefused line) result
+  abbrev pub OtherRefusedExactly : Type 0
+  OtherRefusedExactly = AnsweredExactly held result OtherRefused
+      (λ line Tells. ReadsFile words Tells Other (λ mode. HasBadTraceLine line))
 
   -- It is too long to be judged exactly where it is a trace of so many states, and they are more
   -- than are judged.
-  pub record TraceTooLongExactly : Type 0 where
-    pub only : (states : ℕ) → result ≡ TraceTooLong states
-        → ReadsFile words (WhereTold held) Other (λ mode. HasManyStates states)
-    pub there : (states : ℕ) → ReadsFile words (AsTold held) Other (λ mode. HasManyStates states)
-        → IsOrFailed (TraceTooLong states) result
+  abbrev pub TraceTooLongExactly : Type 0
+  TraceTooLongExactly = AnsweredExactly held result TraceTooLong
+      (λ states Tells. ReadsFile words Tells Other (λ mode. HasManyStates states))

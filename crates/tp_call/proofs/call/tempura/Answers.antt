@@ -98,7 +98,10 @@ returns-clause-too_long g c =
     (λ size asks. record { only = λ which is. absurd (no_too_long _ _ _ _ _ _ c.call.ensures.drill size asks which is); there = λ which r. absurd (no_file _ size asks _ _ _ r) })
 
 pub returns-clause-source_refused : goal.returns-clause-source_refused
-returns-clause-source_refused g c = λ none. record { only = source_refused_only _ _ _ _ _ (c.call.ensures.answer none); there = source_refused _ _ _ _ _ (c.call.ensures.answer none) }
+returns-clause-source_refused g c = λ none. record {
+  only = λ refused. source_refused_only _ _ _ _ _ (c.call.ensures.answer none) refused.line refused.column refused.kind;
+  there = source_refused _ _ _ _ _ (c.call.ensures.answer none);
+}
 
 pub returns-clause-inputs_refused : goal.returns-clause-inputs_refused
 returns-clause-inputs_refused g c =
