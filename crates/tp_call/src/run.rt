@@ -223,8 +223,7 @@ pub fn start(alloc: Global, task: Task) -> Result<Run, NoMemory>
         order,
         beside: _,
     } = task;
-    let run = Run::start(alloc, program, inputs, limits, order)?;
-    Ok(run)
+    Run::start(alloc, program, inputs, limits, order)
 }
 
 /// A run that has come to its end, and its last answer.
