@@ -1,12 +1,12 @@
-// What a store does that no run shows: a list that is kept whole.
-ghost use Rattle.std.specs.Prelude.{◌≡◌, ◌∷◌, [], IfOk, false};
+// What a store does that no run shows: a fact that is noted into room that was made, and a list that is kept whole.
+ghost use Rattle.std.specs.Prelude.{◌≡◌, ◌∷◌, [], length, IfOk, false};
 ghost use Rattle.tp_store.specs.Known.{global_variable};
 
 use crate::expected::holds;
 use std::alloc::Global;
 use std::test::Fail;
-use tp_store::Store;
-use tp_value::{Globals, Indices, Items, NoMemory, Path, Text, Value, VarId};
+use tp_store::{Noted, Store};
+use tp_value::{Globals, Indices, Items, NoMemory, Path, Shape, Text, Value, VarId};
 
 // The state variable A alone.
 fn one_variable(alloc: Global) -> Result<Store, NoMemory>
@@ -20,7 +20,9 @@ fn one_variable(alloc: Global) -> Result<Store, NoMemory>
 
 // A place of it.
 fn place(alloc: Global, at: &[u32]) -> Result<Path, NoMemory>
-    ensures { IfOk result (λ path. path.var ≡ record { number = 0; lasting = false }) }
+    ensures variable { IfOk result (λ path.
+        path.var ≡ record { number = 0; lasting = false }) }
+    ensures indices { IfOk result (λ path. length path.at ≡ length at.now) }
 {
     let mut indices = Indices::new(alloc);
     indices.items.extend_from_slice(at)?;
@@ -29,6 +31,16 @@ fn place(alloc: Global, at: &[u32]) -> Result<Path, NoMemory>
         lasting: false,
     };
     Ok(Path { var, at: indices })
+}
+
+#[test]
+fn a_fact_is_noted(rt: HostRuntime) -> Result<(), Fail> {
+    let mut store = one_variable(rt.alloc())?;
+    let here = place(rt.alloc(), &[])?;
+    store.reserve(1, 0)?;
+    let noted = store.note(&here, Shape::Num(7));
+    holds(&rt, noted == Noted::New, "a new fact");
+    Ok(())
 }
 
 #[test]
