@@ -32,6 +32,7 @@ pub fn tokens(alloc: Global, bytes: &[u8]) -> Result<Tokens, LexRefusal>
     let mut place = TextPlace::START;
     let mut rest = bytes;
     while !rest.is_empty() {
+        // A run of blanks, as at the head of a line, is passed at once.
         let blanks = blanks_len(rest);
         if blanks > 0 {
             place = place.after(&rest[..blanks]);
