@@ -2,6 +2,7 @@ pub mod LawLemmas
 pub mod Lists
 pub mod PieceLemmas
 pub mod ReadingLemmas
+pub mod BlankLemmas
 pub mod SpellingLemmas
 pub mod NameLemmas
 pub mod FeedLemmas

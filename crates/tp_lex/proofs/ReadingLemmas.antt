@@ -5,6 +5,7 @@ use Rattle.std.proofs.Math.Seq.{take-add}
 use Rattle.std.proofs.lemmas.List.Sums.{fold-append}
 use Rattle.tp_lex.specs.declared.token.Token.{Token}
 use Rattle.tp_lex.specs.declared.token.Kind.{Kind}
+use Rattle.tp_lex.specs.declared.token.TextPlace.{TextPlace}
 use Rattle.tp_lex.specs.declared.piece.Fault.{Fault}
 use Rattle.tp_lex.specs.declared.piece.Fault.TheVariants.{BadByte, OpenComment, NumberTooLarge, NameTooLong}
 use Rattle.tp_lex.specs.declared.piece.Piece.{Piece}
@@ -41,9 +42,14 @@ at_fault bytes at fault found so_far is = (found ++ [], so_far [] (Fails (refusa
 pub at_end : (bytes : List ℕ) (at : ℕ) (found : List Token) → Continues bytes at found → at ≡ length bytes → AreTokens bytes found
 at_end bytes at found so_far e = subst (λ (xs : List Token). ReadsTokens bytes 0 xs Whole) (append-nil found) (so_far [] Whole (whole e))
 
--- the place behind a piece
-pub place_later : (bytes : List ℕ) (at n : ℕ) → place_from (place_of bytes at) (take n (drop at bytes)) ≡ place_of bytes (at + n)
+-- the place behind some bytes of what is left
+place_later : (bytes : List ℕ) (at n : ℕ) → place_from (place_of bytes at) (take n (drop at bytes)) ≡ place_of bytes (at + n)
 place_later bytes at n = sym (ap (place_from text_start) (take-add at n bytes) ∙ fold-append place_after text_start (take at bytes) (take n (drop at bytes)))
+
+-- the same, from a place of the text on
+pub place_behind : (bytes rest : List ℕ) (p q : TextPlace) (n : ℕ) → rest ≡ drop p.at bytes → p ≡ place_of bytes p.at → q ≡ place_from p (take n rest) → q ≡ place_of bytes (p.at + n)
+place_behind bytes rest p q n left here next =
+    next ∙ (ap (λ (x : TextPlace). place_from x (take n rest)) here ∙ (ap (λ (z : List ℕ). place_from (place_of bytes p.at) (take n z)) left ∙ place_later bytes p.at n))
 
 -- what is left behind a piece
 pub rest_later : (bytes rest : List ℕ) (at n : ℕ) → rest ≡ drop at bytes → take (length rest - n) (drop n rest) ≡ drop (at + n) bytes

@@ -1,5 +1,5 @@
 -- Which word and which symbol stand in a text.
-use Rattle.std.proofs.Common.{refl, ap, sym, subst, ◌∙◌, ◌≡◌, ◌≢◌, ℕ, ◌<◌, ◌≤◌, Bool, true, false, inl, inr, List, [], ◌∷◌, ◌++◌, length, length-append, slice_index, take, drop, find, nat_eq, Option, Some, None, arith, lit≤, codes}
+use Rattle.std.proofs.Common.{refl, ap, sym, subst, ◌∙◌, ◌≡◌, ◌≢◌, ℕ, ◌<◌, ◌≤◌, Bool, true, false, ◌&&◌, inl, inr, List, [], ◌∷◌, ◌++◌, length, length-append, slice_index, take, drop, find, nat_eq, Option, Some, None, arith, lit≤, codes}
 use Rattle.std.specs.Str.{bytes_eq}
 use Rattle.std.specs.List.{starts_with, filter}
 use Rattle.std.specs.Char.{is_ascii_alphabetic, is_ascii_uppercase}
@@ -45,20 +45,31 @@ word_none text never = at (spelled_word text) refl
     at (Some word) e = absurd (never word (word_is text word e))
     at None e = refl
 
-other_length : (text : List ℕ) (n : ℕ) → length text ≡ n → (word : Word) → has_letters n word ≡ false → bytes_eq (word_spelling word) text ≡ false
-other_length text n e word other = at (bytes_eq (word_spelling word) text) refl
+-- the word has so many letters, and begins with this one
+abbrev is_like : ℕ → ℕ → Word → Bool
+is_like n b word = has_letters n word && nat_eq (slice_index (word_spelling word) 0) b
+
+unlike : (text : List ℕ) (n b : ℕ) → length text ≡ n → slice_index text 0 ≡ b → (word : Word) → is_like n b word ≡ false → bytes_eq (word_spelling word) text ≡ false
+unlike text n b e f word other = at (bytes_eq (word_spelling word) text) refl
   where
-    at : (b : Bool) → bytes_eq (word_spelling word) text ≡ b → b ≡ false
+    at : (t : Bool) → bytes_eq (word_spelling word) text ≡ t → t ≡ false
     at true found =
         let same : word_spelling word ≡ text = (bytes_eq-Decides (word_spelling word) text).0 found in
         let letters : length (word_spelling word) ≡ n = ap length same ∙ e in
+        let first : slice_index (word_spelling word) 0 ≡ b = ap (λ z. slice_index z 0) same ∙ f in
         grind (arith, nat_tests)
     at false found = refl
 
--- the words of the text's length are enough
-pub word_by_length : (text : List ℕ) (n : ℕ) → length text ≡ n → find (λ w. bytes_eq (word_spelling w) text) (filter (has_letters n) WORDS) ≡ spelled_word text
+-- the words of the text's length and first byte are enough
+pub word_by_first : (text : List ℕ) (n b : ℕ) → length text ≡ n → slice_index text 0 ≡ b → find (λ w. bytes_eq (word_spelling w) text) (filter (is_like n b) WORDS) ≡ spelled_word text
 unfolding spelled_word
-word_by_length text n e = find_sieved (λ w. bytes_eq (word_spelling w) text) (has_letters n) (other_length text n e) WORDS
+word_by_first text n b e f = find_sieved (λ w. bytes_eq (word_spelling w) text) (is_like n b) (unlike text n b e f) WORDS
+
+-- no word is empty
+pub no_word_in : (text : List ℕ) → length text ≡ 0 → spelled_word text ≡ None
+unfolding spelled_word
+no_word_in [] none = refl
+no_word_in (b ∷ text) none = absurd (omega arith)
 
 lowercase : (word : Word) → is_ascii_uppercase (slice_index (word_spelling word) 0) ≡ false
 lowercase w.If = refl

@@ -35,10 +35,32 @@ const DIGITS: Class = Class {
     to: [b'9', 0, 0, 0],
 };
 
+// Tab and line feed, which are neighbours, carriage return and space.
+const BLANKS: Class = Class {
+    count: 3,
+    from: [b'\t', b'\r', b' ', 0],
+    to: [b'\n', b'\r', b' ', 0],
+};
+
 fn is_blank(byte: u8) -> bool
     ensures { result ≡ bytes.is_blank byte }
 {
     byte == b' ' || byte == b'\t' || byte == b'\r' || byte == b'\n'
+}
+
+/// How many blanks the text begins with.
+pub fn blanks_len(text: &[u8]) -> usize
+    ensures value { result ≡ prefix_len bytes.is_blank text.now }
+    ensures within { result ≤ length text.now }
+{
+    if text.is_empty() || !is_blank(text[0]) {
+        return 0;
+    }
+    // Between two tokens there is mostly one.
+    if text.len() == 1 || !is_blank(text[1]) {
+        return 1;
+    }
+    run_len(text, &BLANKS)
 }
 
 /// How many letters, digits and `_` the text begins with.

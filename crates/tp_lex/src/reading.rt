@@ -3,7 +3,7 @@ ghost use Rattle.std.specs.Prelude.{◌≡◌, ◌≤◌, length, IfOk, IfErr};
 ghost use Rattle.tp_lex.specs.Place.{source_limit};
 ghost use Rattle.tp_lex.specs.Tokens.{AreTokens, IsRefusedUnlessMemory, refusal_at};
 
-use crate::first::first_piece;
+use crate::first::{blanks_len, first_piece};
 use crate::piece::{Fault, Piece};
 use crate::refusal::LexRefusal;
 use crate::token::{TextPlace, Tokens};
@@ -32,6 +32,13 @@ pub fn tokens(alloc: Global, bytes: &[u8]) -> Result<Tokens, LexRefusal>
     let mut place = TextPlace::START;
     let mut rest = bytes;
     while !rest.is_empty() {
+        // A run of blanks, as at the head of a line, is passed at once.
+        let blanks = blanks_len(rest);
+        if blanks > 0 {
+            place = place.after(&rest[..blanks]);
+            rest = &rest[blanks..];
+            continue;
+        }
         let (len, next) = match first_piece(alloc, rest)? {
             Piece::Gap(len) => (len, place.after(&rest[..len])),
             // No line ends within a token.

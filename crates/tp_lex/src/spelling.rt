@@ -1,5 +1,5 @@
 // How words and symbols are written.
-ghost use Rattle.std.specs.Prelude.{◌≡◌, bytes_eq, find, nat_eq};
+ghost use Rattle.std.specs.Prelude.{◌≡◌, ◌&&◌, bytes_eq, find, nat_eq, slice_index};
 ghost use Rattle.std.specs.List.{starts_with, filter};
 ghost use Rattle.tp_lex.specs.Spelling.{word_spelling, symbol_spelling};
 ghost use Rattle.tp_lex.specs.Spelled.{has_letters, spelled_word, longest_symbol};
@@ -161,52 +161,45 @@ fn word_among(words: &[Word], text: &[u8]) -> Option<Word>
     None
 }
 
-// The words of so many letters.
-fn words_of(letters: usize) -> &'static [Word]
-    ensures { result.now ≡ filter (has_letters letters) WORDS }
+// The words of so many letters that begin with this one.
+fn words_of(letters: usize, first: u8) -> &'static [Word]
+    ensures { result.now ≡ filter (λ w. has_letters letters w
+        && nat_eq (slice_index (word_spelling w) 0) first) WORDS }
 {
-    match letters {
-        2 => &[Word::If, Word::Do, Word::Or],
-        3 => &[
-            Word::For,
-            Word::Run,
-            Word::And,
-            Word::Not,
-            Word::Div,
-            Word::Mod,
-            Word::Fin,
-            Word::Len,
-        ],
-        4 => &[
-            Word::Then,
-            Word::Else,
-            Word::True,
-            Word::More,
-            Word::Skip,
-            Word::Next,
-            Word::Keep,
-            Word::Halt,
-            Word::Gets,
-            Word::List,
-            Word::Proj,
-        ],
-        5 => &[
-            Word::While,
-            Word::Until,
-            Word::False,
-            Word::Empty,
-            Word::Input,
-        ],
-        6 => &[
-            Word::Repeat,
-            Word::Forall,
-            Word::Exists,
-            Word::Define,
-            Word::Always,
-            Word::Stable,
-        ],
-        7 => &[Word::Display],
-        9 => &[Word::Sometimes],
+    match (letters, first) {
+        (2, b'i') => &[Word::If],
+        (2, b'd') => &[Word::Do],
+        (2, b'o') => &[Word::Or],
+        (3, b'f') => &[Word::For, Word::Fin],
+        (3, b'r') => &[Word::Run],
+        (3, b'a') => &[Word::And],
+        (3, b'n') => &[Word::Not],
+        (3, b'd') => &[Word::Div],
+        (3, b'm') => &[Word::Mod],
+        (3, b'l') => &[Word::Len],
+        (4, b't') => &[Word::Then, Word::True],
+        (4, b'e') => &[Word::Else],
+        (4, b'm') => &[Word::More],
+        (4, b's') => &[Word::Skip],
+        (4, b'n') => &[Word::Next],
+        (4, b'k') => &[Word::Keep],
+        (4, b'h') => &[Word::Halt],
+        (4, b'g') => &[Word::Gets],
+        (4, b'l') => &[Word::List],
+        (4, b'p') => &[Word::Proj],
+        (5, b'w') => &[Word::While],
+        (5, b'u') => &[Word::Until],
+        (5, b'f') => &[Word::False],
+        (5, b'e') => &[Word::Empty],
+        (5, b'i') => &[Word::Input],
+        (6, b'r') => &[Word::Repeat],
+        (6, b'f') => &[Word::Forall],
+        (6, b'e') => &[Word::Exists],
+        (6, b'd') => &[Word::Define],
+        (6, b'a') => &[Word::Always],
+        (6, b's') => &[Word::Stable],
+        (7, b'd') => &[Word::Display],
+        (9, b's') => &[Word::Sometimes],
         _ => &[],
     }
 }
@@ -215,7 +208,10 @@ fn words_of(letters: usize) -> &'static [Word]
 pub fn word_of(text: &[u8]) -> Option<Word>
     ensures { result ≡ spelled_word text.now }
 {
-    word_among(words_of(text.len()), text)
+    match text {
+        [first, ..] => word_among(words_of(text.len(), *first), text),
+        [] => None,
+    }
 }
 
 // The first of the symbols that the text begins with.

@@ -8,12 +8,13 @@ use Rattle.tp_lex.specs.declared.token.Token.{Token}
 use Rattle.tp_lex.specs.declared.token.TextPlace.{TextPlace}
 use Rattle.tp_lex.specs.First.{first_piece}
 use Rattle.tp_lex.specs.Pieces.{BeginsPiece}
-use Rattle.tp_lex.specs.Place.{place_of, place_from, token_at}
+use Rattle.tp_lex.specs.Place.{place_of, token_at}
 use Rattle.tp_lex.specs.Line.{EndsNoLine}
 use Rattle.tp_lex.specs.Tokens.{IsRefusedUnlessMemory}
 use Rattle.tp_lex.proofs.PieceLemmas.{gap_takes, lexeme_takes, piece_found}
 use Rattle.tp_lex.proofs.PlaceLemmas.{lexeme_line, Follows, followed, follows_along}
-use Rattle.tp_lex.proofs.ReadingLemmas.{Continues, past_gap, past_lexeme, at_fault, at_end, place_later, rest_later, refused_so}
+use Rattle.tp_lex.proofs.ReadingLemmas.{Continues, past_gap, past_lexeme, at_fault, at_end, place_behind, rest_later, refused_so}
+use Rattle.tp_lex.proofs.BlankLemmas.{past_blanks}
 use Rattle.tp_lex.proofs.reading.tokens.Goals as goal
 use Rattle.tp_lex.proofs.reading.tokens.Goals.{in-Gap, in-Lexeme+in_ok-push-in-Lexeme}
 
@@ -31,8 +32,8 @@ returns-in-Refused-clause-refused c =
     let here : BeginsPiece (drop c.loop-rest.place.at c.args.bytes.now) (v.Refused c.in-Refused.fault) = subst (λ (z : List ℕ). BeginsPiece z (v.Refused c.in-Refused.fault)) c.loop-rest.invariant.rest found.0 in
     subst (IsRefusedUnlessMemory c.args.bytes.now) (sym c.refusal.ensures) (refused_so c.args.bytes.now c.in-Refused.fault c.loop-rest.place.at (at_fault c.args.bytes.now c.loop-rest.place.at c.in-Refused.fault c.loop-rest.found.items c.loop-rest.invariant.reads here))
 
-pub slice_bounds-after-end : goal.slice_bounds-after-end
-slice_bounds-after-end c =
+pub slice_bounds-after-end-in-Gap : goal.slice_bounds-after-end-in-Gap
+slice_bounds-after-end-in-Gap c =
     let rest : List ℕ = c.loop-rest.rest.now in
     let e : v.Gap c.in-Gap.len ≡ first_piece rest = sym c.in-Gap.is ∙ c.in_ok-len.ensures in
     let found = piece_found rest _ (grind (arith, common_steps)) e in
@@ -57,18 +58,40 @@ passed c = elim c.match-branch-2.branch [
   | in-Lexeme+in_ok-push-in-Lexeme w ↦ some_bytes _ _ _ (grind (arith, common_steps)) c.in_ok-len.ensures _ (inr (_, w.in-Lexeme.is)) (ap (λ (x : ℕ × TextPlace). x.0) w.len-is)
 ]
 
-pub slice_bounds-rest-count : goal.slice_bounds-rest-count
-slice_bounds-rest-count c = (passed c).1
+pub slice_bounds-rest-count-in-loop-rest : goal.slice_bounds-rest-count-in-loop-rest
+slice_bounds-rest-count-in-loop-rest c = (passed c).1
 
-pub slice_bounds-rest-start : goal.slice_bounds-rest-start
-slice_bounds-rest-start c = let within = (passed c).1 in search rules
+pub slice_bounds-rest-start-in-loop-rest : goal.slice_bounds-rest-start-in-loop-rest
+slice_bounds-rest-start-in-loop-rest c = let within = (passed c).1 in search rules
 
 -- the same, where these bytes are cut off
-taken : (c : goal.After-rest-1) → (0 < c.match-branch-2.len.0) × (c.match-branch-2.len.0 ≤ length c.loop-rest.rest.now)
+taken : (c : goal.After-rest-in-loop-rest-1) → (0 < c.match-branch-2.len.0) × (c.match-branch-2.len.0 ≤ length c.loop-rest.rest.now)
 taken c = elim c.match-branch-2.branch [
   | in-Gap w ↦ some_bytes _ _ _ (grind (arith, common_steps)) c.in_ok-len.ensures _ (inl w.in-Gap.is) (ap (λ (x : ℕ × TextPlace). x.0) w.len-is)
   | in-Lexeme+in_ok-push-in-Lexeme w ↦ some_bytes _ _ _ (grind (arith, common_steps)) c.in_ok-len.ensures _ (inr (_, w.in-Lexeme.is)) (ap (λ (x : ℕ × TextPlace). x.0) w.len-is)
 ]
+
+pub loop-rest-preserved-then-blanks-gt0 : goal.loop-rest-preserved-then-blanks-gt0
+loop-rest-preserved-then-blanks-gt0 c =
+    let bytes : List ℕ = c.args.bytes.now in
+    let at : ℕ = c.loop-rest.place.at in
+    let rest : List ℕ = c.loop-rest.rest.now in
+    let n : ℕ = c.blanks_len-blanks.result in
+    let next : TextPlace = c.after-place.result in
+    let within : n ≤ length rest = c.blanks_len-blanks.ensures.within in
+    let place : next ≡ place_of bytes (at + n) = place_behind bytes rest c.loop-rest.place next n c.loop-rest.invariant.rest c.loop-rest.invariant.place c.after-place.ensures.place in
+    let advanced : next.at ≡ at + n = omega (arith, c.after-place.ensures.at, length-take-le n rest within) in
+    let left = ap length c.loop-rest.invariant.rest in
+    let old : List Token = c.loop-rest.found.items in
+    let more : Continues bytes (at + n) old = past_blanks bytes rest at n old c.loop-rest.invariant.rest c.loop-rest.invariant.reads c.blanks_len-blanks.ensures.value in
+    record {
+      within = omega (arith, length-drop at bytes);
+      rest = rest_later bytes rest at n c.loop-rest.invariant.rest ∙ ap (λ (k : ℕ). drop k bytes) (sym advanced);
+      place = place ∙ ap (place_of bytes) (sym advanced);
+      line = c.after-place.ensures.line;
+      column = c.after-place.ensures.column;
+      reads = subst (λ (k : ℕ). Continues bytes k old) (sym advanced) more;
+    }
 
 pub loop-rest-smaller : goal.loop-rest-smaller
 loop-rest-smaller c =
@@ -99,7 +122,7 @@ loop-rest-preserved c =
           follows_along c.loop-rest.place rest w.in-Lexeme.len w.along.result (omega (arith, within, some)) one c.loop-rest.invariant.line c.loop-rest.invariant.column w.along.ensures in
           followed c.loop-rest.place rest len _ next _ some (ap (λ (x : ℕ × TextPlace). x.1) w.len-is) along
     ] in
-    let place : next ≡ place_of bytes (at + len) = stands.place ∙ (ap (λ (q : TextPlace). place_from q (take len rest)) c.loop-rest.invariant.place ∙ (ap (λ (z : List ℕ). place_from (place_of bytes at) (take len z)) c.loop-rest.invariant.rest ∙ place_later bytes at len)) in
+    let place : next ≡ place_of bytes (at + len) = place_behind bytes rest c.loop-rest.place next len c.loop-rest.invariant.rest c.loop-rest.invariant.place stands.place in
     let advanced : next.at ≡ at + len = omega (arith, stands.at, length-take-le len rest within) in
     let old : List Token = c.loop-rest.found.items in
     let new : List Token = c.match-branch-2.found.items in
