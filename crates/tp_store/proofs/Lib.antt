@@ -10,6 +10,7 @@ pub mod Trees
 pub mod Ways
 pub mod Room
 pub mod FactMapLemmas
+pub mod Joined
 pub mod Parts
 pub mod Kept
 pub mod Clashes
@@ -29,3 +30,4 @@ pub mod Giving
 pub mod States
 pub mod Remembering
 pub mod Chosen
+pub mod Walks

@@ -1,5 +1,5 @@
 -- The facts of a store: those of its state variables and those of its static ones.
-use Rattle.std.proofs.Common.{◌≡◌, ◌⊎◌, ◌+◌, ◌≤◌, ◌<◌, inl, inr, ℕ, zero, suc, length, arith, Bool, true, false, cond, nat_lt, List, [], ◌∷◌, ◌++◌, map, Option, Some, None, slice_get, get_or, refl, ap, ap₂, sym, ◌∙◌, subst}
+use Rattle.std.proofs.Common.{◌≡◌, ◌⊎◌, ◌+◌, ◌≤◌, ◌<◌, inl, inr, ℕ, zero, suc, length, arith, Bool, true, false, cond, List, [], ◌∷◌, ◌++◌, map, Option, Some, None, slice_get, get_or, refl, ap, ap₂, sym, ◌∙◌, subst}
 use Rattle.std.proofs.lemmas.Bool.{false_from_ne_true}
 use Rattle.std.proofs.lemmas.List.{map-append, length-append, length-map}
 use Rattle.std.proofs.lemmas.List.Elements.{filter-append}
@@ -11,9 +11,8 @@ use Rattle.tp_value.specs.declared.path.Fact.{Fact}
 use Rattle.tp_store.specs.Facts.{same_path, clash, kept_shape, is_excluded, fact}
 use Rattle.tp_store.specs.Known.{Contents, NoClash, Variable, IsVariableOf, AreOfVariables, lasting_facts, facts_below, full, addition, adds, first_clash, new_store, global_variable}
 use Rattle.tp_store.specs.Entries.{variable_in, variables_in, contents_of, part_by_kind, IsPart, AreParts, TakesFact}
-use Rattle.tp_store.specs.FactMap.{AreOf, AreOfKind, FactsOfKind, facts_asked}
+use Rattle.tp_store.specs.FactMap.{AreOf, AreOfKind, FactsOfKind}
 use Rattle.tp_store.specs.Nodes.{ArePlaced}
-use Rattle.tp_store.specs.declared.copies.Which.TheVariants.{Below}
 use Rattle.tp_store.specs.declared.entry.Entry.{Entry}
 use Rattle.tp_store.specs.declared.note.Noted.{Noted}
 use Rattle.tp_store.specs.declared.note.Noted.TheVariants.{New, Kept}
@@ -21,7 +20,8 @@ use Rattle.tp_store.specs.declared.note.Noted.TheVariants as noted
 use Rattle.tp_store.specs.Answers.{IsNoted, IfNew, UnlessNew}
 use Rattle.tp_store.specs.Changes.{IsSoundStore, HaveSameShapes, AddsFacts, HasAppended}
 use Rattle.tp_store.proofs.Paths.{same_path-decides}
-use Rattle.tp_store.proofs.Members.{In, in_left, in_right, in_append, kept_in, in_kept, kept_none, NoClash-append, NoClash-filter, Apart}
+use Rattle.tp_store.proofs.Members.{In, in_left, in_right, in_append, kept_in, in_kept, kept_none, NoClash-append, Apart}
+use Rattle.tp_store.proofs.Joined.{or_else, kept_shape-append, below_appended}
 use Rattle.tp_store.proofs.Adding.{adds_all, new_added, news_given}
 use Rattle.tp_store.proofs.Same.{AgreeAt, same_kept, same_excluded, same_full, same_first, same_addition, clash-variable}
 
@@ -149,16 +149,8 @@ module _ (es : List Entry) (m n : FactsOfKind) (v : Contents) (e : contents_of e
       ∙ ap (λ (s : Contents). addition s.facts fs) e
 
   -- what is below a number, appended
-  pub appended_is : (b : ℕ) (fs old new : List Fact) → fs ≡ facts_asked (Below b) m.facts ++ facts_asked (Below b) n.facts → new ≡ old ++ fs → HasAppended (facts_below b v.facts) old new
-  appended_is b fs old new q l =
-      let same : fs ≡ facts_below b v.facts = q ∙ sym (filter-append (λ (f : Fact). nat_lt f.path.var.number b) m.facts n.facts) ∙ ap (λ (s : Contents). facts_below b s.facts) e in
-      let P : List Fact → Type 0 = λ xs. NoClash xs in
-      record {
-        appended = fs;
-        list = l;
-        no_clash = subst P (sym same) (NoClash-filter (λ (f : Fact). nat_lt f.path.var.number b) v.facts sound_view.no_clash);
-        shapes = λ p. ap (λ xs. kept_shape xs p) same;
-      }
+  pub appended_is : (b : ℕ) (old mid new : List Fact) → HasAppended (facts_below b m.facts) old mid → HasAppended (facts_below b n.facts) mid new → HasAppended (facts_below b v.facts) old new
+  appended_is b old mid new f g = below_appended b m.facts n.facts v.facts old mid new sound_view.no_clash (ap (λ (s : Contents). s.facts) e) f g
 
 -- the place of a variable
 pub of_placed : (x : VarId) (n : ℕ) (fs : List Fact) → AreOf x fs → x.number < n → ArePlaced n fs
@@ -285,24 +277,11 @@ new_contents es m n names p q v =
     ap₂ make (ap₂ (λ (a b : List Fact). a ++ b) p q) v
 
 -- facts are added to a part
-or_else : Option Shape → Option Shape → Option Shape
-or_else None o = o
-or_else (Some sh) o = Some sh
-
-kept_shape-append : (xs ys : List Fact) (p : Path) → kept_shape (xs ++ ys) p ≡ or_else (kept_shape xs p) (kept_shape ys p)
-unfolding or_else
-kept_shape-append [] ys p = refl
-kept_shape-append (x ∷ xs) ys p =
-    let P : Bool → Type 0 = λ b. cond b (Some x.shape) (kept_shape (xs ++ ys) p) ≡ or_else (cond b (Some x.shape) (kept_shape xs p)) (kept_shape ys p) in
-    elim (same_path x.path p) as P [ true ↦ refl | false ↦ kept_shape-append xs ys p ]
-
 or_else-none : (y : Option Shape) → or_else y None ≡ y
-unfolding or_else
 or_else-none None = refl
 or_else-none (Some sh) = refl
 
 or_else-assoc : (a b c : Option Shape) → or_else a (or_else b c) ≡ or_else (or_else a b) c
-unfolding or_else
 or_else-assoc None b c = refl
 or_else-assoc (Some sh) b c = refl
 

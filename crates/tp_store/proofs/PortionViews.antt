@@ -1,5 +1,5 @@
 -- What is seen from outside of whole values and the facts beside them.
-use Rattle.std.proofs.Common.{◌≡◌, ◌≢◌, ◌⊎◌, inl, inr, ℕ, nat_eq, Bool, true, List, [], ◌∷◌, ◌++◌, Option, Some, None, refl, ap, ap₂, sym, ◌∙◌, subst, append_assoc}
+use Rattle.std.proofs.Common.{◌≡◌, ◌≢◌, ◌⊎◌, inl, inr, ℕ, nat_eq, nat_lt, Bool, true, List, [], ◌∷◌, ◌++◌, Option, Some, None, refl, ap, ap₂, sym, ◌∙◌, subst, append_assoc}
 use Rattle.std.specs.Map.{lookup}
 use Rattle.std.proofs.lemmas.Bool.{false_from_ne_true}
 use Rattle.std.specs.declared.rc.Rc.{Rc}
@@ -13,8 +13,8 @@ use Rattle.tp_value.specs.declared.path.VarId.{VarId}
 use Rattle.tp_value.specs.declared.path.Path.{Path}
 use Rattle.tp_value.specs.declared.path.Fact.{Fact}
 use Rattle.tp_store.specs.Facts.{same_path, kept_shape, is_excluded, fact}
-use Rattle.tp_store.specs.Known.{NoClash, addition, adds, first_clash, full, is_none}
-use Rattle.tp_store.specs.Changes.{HaveSameShapes}
+use Rattle.tp_store.specs.Known.{NoClash, addition, adds, facts_below, first_clash, full, is_none}
+use Rattle.tp_store.specs.Changes.{HaveSameShapes, HasAppended}
 use Rattle.tp_store.specs.FactMap.{AreOf, AreOfKind, FactsOfKind, IsNewFact}
 use Rattle.tp_store.specs.Nodes.{path_along}
 use Rattle.tp_store.specs.Answers.{IsNoted}
@@ -22,7 +22,9 @@ use Rattle.tp_store.specs.Wholes.{facts_of_value, whole_facts, whole_value, AreO
 use Rattle.tp_store.specs.declared.note.Noted.{Noted}
 use Rattle.tp_store.specs.declared.note.Noted.TheVariants.{New, Kept}
 use Rattle.tp_store.specs.declared.note.Noted.TheVariants as noted
-use Rattle.tp_store.proofs.Members.{kept_none}
+use Rattle.tp_store.proofs.Members.{kept_none, NoClash-filter}
+use Rattle.tp_store.proofs.Joined.{all_appended, below_appended}
+use Rattle.tp_store.proofs.FactMapLemmas.{later_apart}
 use Rattle.tp_store.proofs.Paths.{same_path-decides}
 use Rattle.tp_store.proofs.Parts.{of_in, shapes_swap}
 use Rattle.tp_store.proofs.Same.{AgreeAt, same_kept, same_excluded, same_full, same_first, same_addition}
@@ -49,6 +51,13 @@ module _ (b : Bool) (m : FactsOfKind) (es : List (ℕ × Rc Value Global)) (v : 
 
   pub seen_kinds : AreOfKind v.lasting v.facts
   seen_kinds = let P : FactsOfKind → Type 0 = λ o. AreOfKind o.lasting o.facts in subst P e (all_kinds b es m.facts h.3 h.2)
+
+  -- the facts of the variables with lesser numbers
+  pub seen_appended : (below : ℕ) (old mid new : List Fact) → HasAppended (facts_below below m.facts) old mid → new ≡ mid ++ facts_below below (whole_facts b es) → HasAppended (facts_below below v.facts) old new
+  seen_appended below old mid new g q =
+      let apart = later_apart m.facts (whole_facts b es) (subst (λ fs. NoClash fs) (sym facts_seen) seen_apart) in
+      below_appended below m.facts (whole_facts b es) v.facts old mid new seen_apart facts_seen g
+      (all_appended (facts_below below (whole_facts b es)) mid new (NoClash-filter (λ (f : Fact). nat_lt f.path.var.number below) (whole_facts b es) apart) q)
 
   -- of a variable without such a value
   module _ (x : VarId) (none : whole_value b es x ≡ None) where

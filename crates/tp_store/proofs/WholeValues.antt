@@ -315,9 +315,6 @@ next_not_asked which b es i n v h t =
     ap (facts_asked which) (whole_next b es i n v h) ∙ asked_append which (facts_of_value x (tree v.value)) (whole_facts b (drop (i + 1) es))
     ∙ ap (λ fs. fs ++ facts_asked which (whole_facts b (drop (i + 1) es))) (asked_none which x (facts_of_value x (tree v.value)) (value_of_variable (path_along x []) (tree v.value)) t)
 
-pub asked_both : (which : Which) (xs ys : List Fact) (out all : List Fact) → all ≡ (out ++ facts_asked which xs) ++ facts_asked which ys → all ≡ out ++ facts_asked which (xs ++ ys)
-asked_both which xs ys out all h = h ∙ append_assoc out (facts_asked which xs) (facts_asked which ys) ∙ ap (λ fs. out ++ fs) (sym (asked_append which xs ys))
-
 pub none_next : (which : Which) (b : Bool) (es : List (ℕ × Rc Value Global)) (i : ℕ) → i < length es → slice_get es i ≡ None
     → facts_asked which (whole_facts b (drop i es)) ≡ facts_asked which (whole_facts b (drop (i + 1) es))
 none_next which b [] i l h = absurd (omega (arith, l))

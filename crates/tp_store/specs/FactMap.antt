@@ -1,11 +1,11 @@
 -- Facts that are kept together.
-use Rattle.std.specs.Prelude.{◌≡◌, ℕ, Bool, false, not, eqb, nat_lt, List, [], ◌∷◌, filter, take, Option, Some, None}
+use Rattle.std.specs.Prelude.{◌≡◌, ℕ, Bool, true, false, not, ◌&&◌, eqb, nat_lt, List, [], ◌∷◌, filter, take, Option, Some, None}
 use Rattle.tp_value.specs.declared.value.Shape.{Shape}
 use Rattle.tp_value.specs.declared.path.VarId.{VarId}
 use Rattle.tp_value.specs.declared.path.Path.{Path}
 use Rattle.tp_value.specs.declared.path.Fact.{Fact}
 use Rattle.tp_value.specs.declared.value.Shape.TheVariants.{Num, Truth, Items}
-use Rattle.tp_store.specs.Facts.{has_item, kept_shape}
+use Rattle.tp_store.specs.Facts.{has_item, kept_shape, same_variable}
 use Rattle.tp_store.specs.Known.{first_clash}
 use Rattle.tp_store.specs.declared.copies.Which.{Which}
 use Rattle.tp_store.specs.declared.copies.Which.TheVariants.{Below, Of}
@@ -61,3 +61,17 @@ is_among (Of n) k = eqb k n
 
 abbrev pub facts_asked : Which → List Fact → List Fact
 facts_asked which = filter (λ f. is_among which f.path.var.number)
+
+-- the second indices are the first ones, or go on from them
+abbrev pub go_on_from : (first second : List ℕ) → Bool
+go_on_from [] ks = true
+go_on_from (j ∷ js) [] = false
+go_on_from (j ∷ js) (k ∷ ks) = eqb j k && go_on_from js ks
+
+-- the path is the outer one, or one of something inside of what stands there
+abbrev pub is_at_or_inside : (outer path : Path) → Bool
+is_at_or_inside outer path = same_variable outer.var path.var && go_on_from outer.at path.at
+
+-- the facts of what stands at a path, and of all inside of it
+abbrev pub facts_from : Path → List Fact → List Fact
+facts_from p = filter (λ f. is_at_or_inside p f.path)

@@ -1,4 +1,4 @@
-// Equal facts to those of a tree, of the variables that are asked for.
+// Equal facts to those of a tree, of the variables that are asked for, by a look at each of its nodes.
 ghost use Rattle.std.specs.Prelude.{◌≡◌, ◌++◌, OnOk};
 ghost use Rattle.tp_store.specs.FactMap.{is_among, facts_asked};
 ghost use Rattle.tp_store.specs.Nodes.{facts_in_tree, IsTree};
@@ -26,7 +26,7 @@ impl Which {
     }
 }
 
-/// Appends those of the facts that are asked for, as facts of variables of this kind.
+/// Appends those of the facts that are asked for, in the order of the nodes, as facts of variables of this kind.
 pub fn copy_facts(
     alloc: Global,
     lasting: bool,

@@ -3,9 +3,9 @@ ghost use Rattle.std.specs.Prelude.{◌≡◌, ◌<◌, ◌≤◌, ◌+◌, ◌^
 ghost use Rattle.indexmap.specs.IndexMap.{get};
 ghost use Rattle.std.specs.Option.{option_copied};
 ghost use Rattle.tp_store.specs.Facts.{fact, kept_shape, is_excluded, has_item, item_path};
-ghost use Rattle.tp_store.specs.Known.{NoClash, addition, adds, deepest, first_clash, full, open_at, value, whole};
-ghost use Rattle.tp_store.specs.Changes.{HaveSameShapes};
-ghost use Rattle.tp_store.specs.FactMap.{facts_asked, AreOf, AreOfKind, IsNewFact, IsNumberOrTruth};
+ghost use Rattle.tp_store.specs.Known.{NoClash, addition, adds, deepest, facts_below, first_clash, full, open_at, value, whole};
+ghost use Rattle.tp_store.specs.Changes.{HasAppended, HaveSameShapes};
+ghost use Rattle.tp_store.specs.FactMap.{AreOf, AreOfKind, IsNewFact, IsNumberOrTruth};
 ghost use Rattle.tp_store.specs.Nodes.{edges_in, nodes_in, node_from, facts_in_tree, item_shape, path_along, way_of, IsTree, IsCutOff, ArePlainItems, LacksShape};
 ghost use Rattle.tp_store.specs.Answers.{IsNoted};
 ghost use Rattle.tp_store.specs.Wholes.{AreOfOthers};
@@ -21,6 +21,7 @@ use crate::judge::judge_in;
 use crate::keeping::{keep_facts, keep_shape};
 use crate::nodes::Nodes;
 use crate::note::Noted;
+use crate::walk::copy_below;
 use indexmap::IndexMap;
 use std::alloc::Global;
 use std::marker::Model;
@@ -326,7 +327,8 @@ impl FactMap {
             return Ok(None);
         }
         let mut facts = Vec::new(alloc);
-        self.copy_to(alloc, Which::Of(fact.path.var.number), &mut facts)?;
+        let of = Which::Of(fact.path.var.number);
+        copy_facts(alloc, self.lasting, &self.nodes, of, &mut facts)?;
         let Some(first) = find_clash(facts.as_slice(), fact) else {
             return Ok(None);
         };
@@ -365,17 +367,17 @@ impl FactMap {
         }
     }
 
-    /// Appends equal facts to those of these that are asked for.
-    pub fn copy_to(
+    /// Appends equal facts to those of the variables with lesser numbers.
+    pub fn copy_below(
         &self,
         alloc: Global,
-        which: Which,
+        below: u64,
         facts: &mut Vec<Fact>,
     ) -> Result<(), NoMemory>
         ensures { OnOk result
-            (facts.new.items ≡ facts.old.items ++ facts_asked which self.now.facts) }
+            (HasAppended (facts_below below self.now.facts) facts.old.items facts.new.items) }
     {
-        copy_facts(alloc, self.lasting, &self.nodes, which, facts)
+        copy_below(alloc, self.lasting, &self.nodes, below, facts)
     }
 
     /// Adds equal facts of one variable, or none where memory ends. What needs memory comes before the facts are changed. The value is

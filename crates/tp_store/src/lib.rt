@@ -17,6 +17,7 @@ mod operand;
 mod portion;
 mod set;
 mod store;
+mod walk;
 mod wholes;
 
 pub use add::{AddRefusal, value_facts};

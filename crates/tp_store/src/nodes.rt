@@ -136,8 +136,28 @@ impl Nodes {
         }
     }
 
-    // The node of the variable with that number.
-    fn root(&self, number: u64) -> Option<u64>
+    /// The child of a node with that index. Where it is the node right behind the node `last` it is found without a look by its edge.
+    pub fn child_behind(&self, last: u64, node: u64, index: u64) -> Option<u64>
+        ensures { result ≡ child (edges_in self.now) node index }
+    {
+        let _count = self.below.len();
+        if let Some((edge, _)) = self.below.get_index(last as usize) {
+            if edge.node == node && edge.index == index {
+                return Some(last + 1);
+            }
+        }
+        self.child(node, index)
+    }
+
+    /// A number that those of the variables with nodes are less than.
+    pub fn places(&self) -> u64
+        ensures { result ≡ length self.now.places.items }
+    {
+        self.places.len() as u64
+    }
+
+    /// The node of the variable with that number.
+    pub fn root(&self, number: u64) -> Option<u64>
         requires { IsTree self.now }
         ensures { result ≡ child (edges_in self.now) 0 number }
     {

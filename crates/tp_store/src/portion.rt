@@ -7,16 +7,15 @@ ghost use Rattle.tp_value.specs.Limits.{is_within_list_limit};
 ghost use Rattle.tp_value.specs.Read.{tree};
 ghost use Rattle.tp_value.specs.declared.value.Value.{Value as ValueSeen};
 ghost use Rattle.tp_store.specs.Facts.{fact, kept_shape, is_excluded};
-ghost use Rattle.tp_store.specs.Known.{NoClash, addition, adds, first_clash, full, new_facts, value};
-ghost use Rattle.tp_store.specs.Changes.{HaveSameShapes};
-ghost use Rattle.tp_store.specs.FactMap.{facts_asked, AreOf, AreOfKind, IsNewFact};
+ghost use Rattle.tp_store.specs.Known.{NoClash, addition, adds, facts_below, first_clash, full, new_facts, value};
+ghost use Rattle.tp_store.specs.Changes.{HasAppended, HaveSameShapes};
+ghost use Rattle.tp_store.specs.FactMap.{AreOf, AreOfKind, IsNewFact};
 ghost use Rattle.tp_store.specs.Nodes.{path_along};
 ghost use Rattle.tp_store.specs.Answers.{full_of, IsNoted, IsRefusal};
 ghost use Rattle.tp_store.specs.KeptValue.{AreOfValue};
 ghost use Rattle.tp_store.specs.Wholes.{facts_of_value, whole_value, AreOfOthers};
 
 use crate::add::{AddRefusal, news_in};
-use crate::copies::Which;
 use crate::fact_map::{FactMap, find_clash};
 use crate::full::{Known, full_in, kept_at};
 use crate::note::Noted;
@@ -184,18 +183,18 @@ impl Portion {
         Ok(news)
     }
 
-    /// Appends equal facts to those of these that are asked for.
-    pub fn copy_to(
+    /// Appends equal facts to those of the variables with lesser numbers.
+    pub fn copy_below(
         &self,
         alloc: Global,
-        which: Which,
+        below: u64,
         facts: &mut Vec<Fact>,
     ) -> Result<(), NoMemory>
         ensures { OnOk result
-            (facts.new.items ≡ facts.old.items ++ facts_asked which self.now.facts) }
+            (HasAppended (facts_below below self.now.facts) facts.old.items facts.new.items) }
     {
-        self.parts.copy_to(alloc, which, facts)?;
-        copy_wholes(alloc, self.lasting, &self.wholes, which, facts)
+        self.parts.copy_below(alloc, below, facts)?;
+        copy_wholes(alloc, self.lasting, &self.wholes, below, facts)
     }
 
     /// Adds facts of one variable, which don't clash with each other. Where they are those of a value of the whole variable, it is kept

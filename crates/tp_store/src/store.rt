@@ -7,7 +7,6 @@ ghost use Rattle.tp_store.specs.Stock.{contents_in};
 ghost use Rattle.tp_store.specs.Changes.{IsSoundStore, HaveSameShapes, HasAppended};
 ghost use Rattle.tp_store.specs.Entries.{part_by_kind};
 
-use crate::copies::Which;
 use crate::entry::{Entry, global_entries, name_of};
 use crate::portion::Portion;
 use std::alloc::Global;
@@ -134,10 +133,8 @@ impl Store {
         ensures sound { IsSoundStore (contents_in self.now) }
     {
         let mut copies = Vec::new(self.alloc);
-        self.state
-            .copy_to(self.alloc, Which::Below(below), &mut copies)?;
-        self.fixed
-            .copy_to(self.alloc, Which::Below(below), &mut copies)?;
+        self.state.copy_below(self.alloc, below, &mut copies)?;
+        self.fixed.copy_below(self.alloc, below, &mut copies)?;
         if out.items.is_empty() {
             mem::swap(&mut out.items, &mut copies);
             return Ok(());

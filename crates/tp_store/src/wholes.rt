@@ -5,12 +5,11 @@ ghost use Rattle.tp_value.specs.Limits.{is_within_list_limit};
 ghost use Rattle.tp_value.specs.Read.{tree};
 ghost use Rattle.tp_value.specs.Shape.{item_at, shape_at_path};
 ghost use Rattle.tp_store.specs.Answers.{full_of};
-ghost use Rattle.tp_store.specs.FactMap.{facts_asked};
+ghost use Rattle.tp_store.specs.Known.{facts_below};
 ghost use Rattle.tp_store.specs.Wholes.{facts_of_value, full_inside, whole_facts, whole_value};
 
 use crate::add::append_facts;
 use crate::clash::same_shape;
-use crate::copies::Which;
 use crate::full::Known;
 use indexmap::IndexMap;
 use std::alloc::Global;
@@ -101,20 +100,20 @@ pub fn value_of_variable(alloc: Global, var: VarId, value: &Value) -> Result<Vec
     Ok(facts)
 }
 
-/// Appends the facts of those of these values that are asked for, of variables of this kind.
+/// Appends the facts of the values of variables with lesser numbers, of variables of this kind.
 pub fn copy_wholes(
     alloc: Global,
     lasting: bool,
     wholes: &IndexMap<u64, Rc<Value>>,
-    which: Which,
+    below: u64,
     facts: &mut Vec<Fact>,
 ) -> Result<(), NoMemory>
     ensures { OnOk result (facts.new.items
-        ≡ facts.old.items ++ facts_asked which (whole_facts lasting wholes.now.entries)) }
+        ≡ facts.old.items ++ facts_below below (whole_facts lasting wholes.now.entries)) }
 {
     for i in 0..wholes.len() {
         if let Some((number, value)) = wholes.get_index(i) {
-            if which.has(*number) {
+            if *number < below {
                 let var = VarId {
                     number: *number,
                     lasting,

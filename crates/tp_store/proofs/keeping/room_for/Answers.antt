@@ -1,5 +1,5 @@
-use Rattle.std.proofs.Common.{◌≡◌, ◌+◌, drop, arith}
-use Rattle.tp_store.specs.Nodes.{way_of, room_behind}
+use Rattle.std.proofs.Common.{arith}
+use Rattle.tp_store.specs.Nodes.{way_of}
 use Rattle.tp_store.proofs.Room.{room_next, room_first}
 use Rattle.tp_store.proofs.keeping.room_for.Goals as goal
 
