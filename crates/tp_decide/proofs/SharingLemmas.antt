@@ -1,11 +1,21 @@
--- Equations of two places, item by item.
-use Rattle.std.proofs.Common.{◌≡◌, ℕ, zero, suc, pos, ◌+◌, List, [], ◌∷◌, ◌++◌, map, length, refl, ap, ap₂, sym, ◌∙◌, arith}
+-- Equations of two places, by their shapes and item by item.
+use Rattle.std.proofs.Common.{◌≡◌, ℕ, zero, suc, pos, ◌+◌, Bool, true, false, ◌||◌, Option, Some, List, [], ◌∷◌, ◌++◌, map, length, refl, ap, ap₂, sym, ◌∙◌, arith, if◌then◌else◌}
 use Rattle.std.proofs.lemmas.List.{map-append}
+use Rattle.tp_value.specs.declared.path.Fact.{Fact}
+use Rattle.tp_value.specs.declared.path.Path.{Path}
+use Rattle.tp_value.specs.declared.value.Shape.{Shape}
+use Rattle.tp_value.specs.declared.value.Shape.TheVariants.{Num, Truth, Items}
+use Rattle.tp_kernel.specs.declared.fault.FaultKind.TheVariants.{NoElement}
 use Rattle.tp_meaning.specs.Syntax.{FormulaTree, FormulaTrees, no_formula, formula_then, equation, index, bound, numeral}
+use Rattle.tp_store.specs.Facts.{fact, kept_shape, is_excluded}
+use Rattle.tp_store.specs.FactMap.{IsNumberOrTruth}
+use Rattle.tp_store.specs.Known.{NoClash, addition, adds}
+use Rattle.tp_scene.specs.declared.answer.Clash.TheVariants.{NoValue}
 use Rattle.tp_scene.specs.Scene as S
 use Rattle.tp_scene.specs.Step as row
 use Rattle.tp_decide.specs.declared.decision.Leaf.{Leaf}
 use Rattle.tp_decide.specs.Decided.{plain_leaf, news_entries}
+use Rattle.tp_decide.proofs.KnownLemmas.{shape_adds_nothing, kept_not_excluded}
 
 -- the equation of the items with this index
 abbrev pub item_equation : ℕ → FormulaTree
@@ -42,3 +52,27 @@ module _ (env : S.Bindings) where
   one_more_item ls new l m made is inv =
       let n : suc m ≡ m + 1 = omega arith in
       ap (map plain_leaf) made ∙ map-append plain_leaf ls (l ∷ []) ∙ ap₂ (λ (xs : List S.Leaf) x. xs ++ x ∷ []) inv is ∙ sym (last_item m 0 m (omega arith)) ∙ ap (λ k. leaves (row.item_equations k 0)) n
+
+-- two places, of which the right one has this shape
+module _ (facts : List Fact) (apart : NoClash facts) (p q : Path) (sh : Shape) (right : kept_shape facts q ≡ Some sh) (n : row.Numbers) where
+  abbrev by_left : Bool → row.PickOutcome
+  by_left b = if b then row.clashes (NoValue NoElement) else row.shares p q sh n (addition facts (fact p sh ∷ []))
+
+  pub left_decides : (b : Bool) → is_excluded facts p ≡ b → by_left b ≡ row.equate_places facts p q n
+  left_decides b e =
+      ap by_left (sym e)
+      ∙ sym (ap₂ (λ (out : Bool) (o : Option Shape). if out || is_excluded facts p then row.clashes (NoValue NoElement) else row.by_shapes facts p q n o (kept_shape facts p))
+      (kept_not_excluded facts q sh apart right) right)
+
+  nothing_shared : IsNumberOrTruth (Some sh) → row.vanishes ≡ row.shares p q sh n (adds [])
+  nothing_shared h = by sh h
+    where
+      by : (s : Shape) → IsNumberOrTruth (Some s) → row.vanishes ≡ row.shares p q s n (adds [])
+      by (Num m) k = refl
+      by (Truth b) k = refl
+      by (Items m) k = absurd k
+
+  pub known_by_both : IsNumberOrTruth (Some sh) → kept_shape facts p ≡ Some sh → row.vanishes ≡ row.equate_places facts p q n
+  known_by_both plain left =
+      nothing_shared plain ∙ ap (row.shares p q sh n) (sym (shape_adds_nothing facts apart p sh left))
+      ∙ left_decides false (kept_not_excluded facts p sh apart left)

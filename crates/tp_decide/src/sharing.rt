@@ -1,15 +1,16 @@
 // Equations of two places, which go by the shape that one of them has.
-ghost use Rattle.std.specs.Prelude.{◌≡◌, ℕ, pos, length, List, ◌∷◌, [], IfOk, if◌then◌else◌};
+ghost use Rattle.std.specs.Prelude.{◌≡◌, ℕ, pos, length, List, ◌∷◌, [], Some, IfOk, IsTrue, if◌then◌else◌};
 ghost use Rattle.tp_value.specs.declared.path.Fact.{Fact};
 ghost use Rattle.tp_meaning.specs.Syntax.{equation, index, numeral};
 ghost use Rattle.tp_kernel.specs.Read.{expr_tree, formula_tree, bindings_of};
-ghost use Rattle.tp_store.specs.Facts.{fact};
+ghost use Rattle.tp_store.specs.Facts.{fact, kept_shape};
+ghost use Rattle.tp_store.specs.FactMap.{IsNumberOrTruth};
 ghost use Rattle.tp_store.specs.Known.{Variable, IsVariableOf, addition};
 ghost use Rattle.tp_scene.specs.Step as row;
 ghost use Rattle.tp_decide.specs.Decided.{decided_outcome, news_entries};
 ghost use Rattle.tp_decide.specs.Fits.{SetsVariables};
 
-use crate::decision::{Decision, Leaf, due};
+use crate::decision::{Decision, Leaf, due, nothing};
 use std::alloc::Global;
 use std::rc::Rc;
 use tp_kernel::{Binding, Env, Expr, FaultKind, Formula};
@@ -110,6 +111,45 @@ fn share(
     }
 }
 
+// Whether the place is known by this shape already, and the shape is that of a number or a truth.
+fn has_plain_shape(store: &Store, path: &Path, shape: Shape) -> bool
+    ensures plain { IsTrue result → IsNumberOrTruth (Some shape) }
+    ensures kept { IsTrue result → kept_shape store.now.facts path.now ≡ Some shape }
+{
+    match shape {
+        Shape::Num(_) | Shape::Truth(_) => store.shape(path) == Some(shape),
+        Shape::Items(_) => false,
+    }
+}
+
+// What becomes of the equation of two places, of which the right one has this shape. Where both are the same number or truth, there is
+// nothing to set.
+fn equate_with_right(
+    alloc: Global,
+    shape: Shape,
+    left: Path,
+    right: Path,
+    store: &Store,
+) -> Result<Decision, NoMemory>
+    requires { kept_shape store.now.facts right ≡ Some shape }
+    ensures outcome { IfOk result (λ d.
+        (n : row.Numbers)
+        → decided_outcome store.now.facts n d
+        ≡ row.equate_places store.now.facts left right n) }
+    ensures variables { IfOk result (λ d.
+        (xs : List Variable) → IsVariableOf xs left.var → IsVariableOf xs right.var
+        → SetsVariables xs d) }
+{
+    if has_plain_shape(store, &left, shape) {
+        store.count(); // whose facts don't clash
+        return Ok(nothing());
+    }
+    if store.excludes(&left) {
+        return Ok(Decision::Clashes(Clash::NoValue(FaultKind::NoElement)));
+    }
+    share(alloc, shape, left, right, true)
+}
+
 /// What becomes of the equation of the places with these paths.
 pub fn equate_places(
     alloc: Global,
@@ -125,11 +165,12 @@ pub fn equate_places(
         (xs : List Variable) → IsVariableOf xs left.var → IsVariableOf xs right.var
         → SetsVariables xs d) }
 {
+    // what has a shape isn't excluded
+    if let Some(shape) = store.shape(&right) {
+        return equate_with_right(alloc, shape, left, right, store);
+    }
     if store.excludes(&right) || store.excludes(&left) {
         return Ok(Decision::Clashes(Clash::NoValue(FaultKind::NoElement)));
-    }
-    if let Some(shape) = store.shape(&right) {
-        return share(alloc, shape, left, right, true);
     }
     if let Some(shape) = store.shape(&left) {
         return share(alloc, shape, left, right, false);
