@@ -1,5 +1,5 @@
 -- A value that is known at a path already is added there without a new fact.
-use Rattle.std.proofs.Common.{◌≡◌, inl, inr, ℕ, zero, suc, Bool, true, false, List, [], ◌∷◌, length, Option, Some, None, refl, ap, sym, ◌∙◌, subst, ◌||◌, if◌then◌else◌}
+use Rattle.std.proofs.Common.{◌≡◌, inl, inr, ℕ, zero, suc, Bool, true, false, List, [], ◌∷◌, length, Option, Some, None, refl, ap, sym, ◌∙◌, subst, if◌then◌else◌}
 use Rattle.tp_value.specs.Tree.{Tree, num, truth, list, items_of, of_items}
 use Rattle.tp_value.specs.Limits.{is_within_list_limit}
 use Rattle.tp_value.specs.declared.value.Shape.{Shape}
@@ -8,7 +8,7 @@ use Rattle.tp_value.specs.declared.path.Path.{Path}
 use Rattle.tp_value.specs.declared.path.Fact.{Fact}
 use Rattle.tp_store.specs.Facts.{kept_shape, is_excluded, fact, item_path, facts_at, facts_of_items}
 use Rattle.tp_store.specs.Known.{NoClash, is_none, Addition, adds, refuses, new_facts, addition, Whole, WholeItems, known, open_at, all_known, item_open_at, and_items, list_of_items, items_known, with_shape, whole, deepest, value, too_long, absent, limited, full}
-use Rattle.tp_store.proofs.Members.{In, in_append, in_filter, kept_in, apart_in, excluded_by}
+use Rattle.tp_store.proofs.Members.{In, in_append, in_filter, kept_in, apart_in}
 use Rattle.tp_store.proofs.Adding.{adds_all, refused_by}
 
 items_back : (ts : List Tree) → length (items_of (of_items ts)) ≡ length ts
@@ -18,25 +18,6 @@ items_back (t ∷ ts) = ap suc (items_back ts)
 no_members : (xs : List Fact) → ((f : Fact) → In f xs → ⊥) → xs ≡ []
 no_members [] h = refl
 no_members (x ∷ xs) h = absurd (h x (inl refl))
-
-true_false : true ≡ false → ⊥
-true_false e = cc
-
-or_false : (a b : Bool) → (a || b) ≡ false → (a ≡ false) × (b ≡ false)
-or_false true b e = absurd (cc)
-or_false false b e = (refl, e)
-
--- a path with a shape of its own isn't excluded
-pub kept_not_excluded : (facts : List Fact) (p : Path) (sh : Shape) → NoClash facts → kept_shape facts p ≡ Some sh → is_excluded facts p ≡ false
-kept_not_excluded facts p sh h k = none (is_excluded facts p) refl
-  where
-    none : (b : Bool) → is_excluded facts p ≡ b → is_excluded facts p ≡ false
-    none false e = e
-    none true e =
-        let by = excluded_by facts p e in
-        let apart = apart_in facts by.0 (fact p sh) h by.1 (kept_in facts p sh k) in
-        let parts = or_false _ _ (or_false _ _ apart).1 in
-        absurd (true_false (sym by.2 ∙ parts.0))
 
 module _ (facts : List Fact) where
   abbrev IsKept : Fact → Type 0

@@ -10,12 +10,13 @@ use Rattle.tp_meaning.specs.Syntax.{FormulaTree, FormulaTrees, no_formula, formu
 use Rattle.tp_store.specs.Facts.{fact, kept_shape, is_excluded}
 use Rattle.tp_store.specs.FactMap.{IsNumberOrTruth}
 use Rattle.tp_store.specs.Known.{NoClash, addition, adds}
+use Rattle.tp_eval.proofs.Kept.{kept_not_excluded}
 use Rattle.tp_scene.specs.declared.answer.Clash.TheVariants.{NoValue}
 use Rattle.tp_scene.specs.Scene as S
 use Rattle.tp_scene.specs.Step as row
 use Rattle.tp_decide.specs.declared.decision.Leaf.{Leaf}
 use Rattle.tp_decide.specs.Decided.{plain_leaf, news_entries}
-use Rattle.tp_decide.proofs.KnownLemmas.{shape_adds_nothing, kept_not_excluded}
+use Rattle.tp_decide.proofs.KnownLemmas.{shape_adds_nothing}
 
 -- the equation of the items with this index
 abbrev pub item_equation : ℕ → FormulaTree

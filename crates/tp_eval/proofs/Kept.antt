@@ -24,7 +24,7 @@ or_false true b e = absurd (cc)
 or_false false b e = (refl, e)
 
 -- a path with a shape of its own isn't excluded
-kept_not_excluded : (facts : List Fact) (p : Path) (sh : Shape) → NoClash facts → kept_shape facts p ≡ Some sh → is_excluded facts p ≡ false
+pub kept_not_excluded : (facts : List Fact) (p : Path) (sh : Shape) → NoClash facts → kept_shape facts p ≡ Some sh → is_excluded facts p ≡ false
 kept_not_excluded facts p sh h k = none (is_excluded facts p) refl
   where
     none : (b : Bool) → is_excluded facts p ≡ b → is_excluded facts p ≡ false
