@@ -240,10 +240,12 @@ module _ (t : Nodes) (p : Path) (node : ℕ) (tree : IsTree t) (d : IsDistinct s
   abbrev found : List Fact
   found = facts_in_tree p.var.lasting t
 
+  -- what is kept there
+  pub kept_there : kept_shape found p ≡ shape_among (nodes_in t) node
+  kept_there = kept_is p.var.lasting (edges_in t) (nodes_in t) tree.rooted d (length_nodes t) p refl ∙ ap (shape_found (nodes_in t)) way
+
   pub node_fact : (old new : List Fact) → new ≡ old ++ fact_where p.var.lasting (way_of p) (shape_among (nodes_in t) node) → HasAppended (those (is_before p 0) found) old new
-  node_fact old new e =
-      let kept : kept_shape found p ≡ shape_among (nodes_in t) node = kept_is p.var.lasting (edges_in t) (nodes_in t) tree.rooted d (length_nodes t) p refl ∙ ap (shape_found (nodes_in t)) way in
-      by (shape_among (nodes_in t) node) kept e
+  node_fact old new e = by (shape_among (nodes_in t) node) kept_there e
     where
       here : (q : Path) → kept_shape (those (is_before p 0) found) q ≡ cond (same_path p q) (kept_shape found q) None
       here q = kept_those (is_before p 0) found q ∙ ap (λ c. cond (same_variable p.var q.var && c) (kept_shape found q) None) (below_none p.at q.at)
@@ -267,6 +269,11 @@ module _ (t : Nodes) (p : Path) (node : ℕ) (tree : IsTree t) (d : IsDistinct s
 
   pub item_way : (k c : ℕ) → child (edges_in t) node k ≡ Some c → node_from (edges_in t) (way_of (item_path p k)) 0 ≡ Some c
   item_way k c e = on_way (item_path p k) (k ∷ []) refl refl ∙ ap (λ o. node_or_none o (node_from (edges_in t) [])) e
+
+  pub no_item_kept : (k : ℕ) → child (edges_in t) node k ≡ None → kept_shape found (item_path p k) ≡ None
+  no_item_kept k e =
+      kept_is p.var.lasting (edges_in t) (nodes_in t) tree.rooted d (length_nodes t) (item_path p k) refl
+      ∙ ap (shape_found (nodes_in t)) (on_way (item_path p k) (k ∷ []) refl refl ∙ ap (λ o. node_or_none o (node_from (edges_in t) [])) e)
 
   -- an item that has no node
   pub no_item : (k : ℕ) (old new : List Fact) → child (edges_in t) node k ≡ None → HasAppended (those (is_before p k) found) old new → HasAppended (those (is_before p (k + 1)) found) old new

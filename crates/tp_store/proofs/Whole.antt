@@ -1,10 +1,12 @@
 -- A whole value, item by item.
-use Rattle.std.proofs.Common.{◌≡◌, ℕ, suc, ◌+◌, ◌-◌, ◌<◌, ◌≤◌, List, [], ◌∷◌, ◌++◌, refl, ap, sym, ◌∙◌, arith, append_assoc}
+use Rattle.std.proofs.Common.{◌≡◌, ℕ, zero, suc, ◌+◌, ◌-◌, ◌<◌, ◌≤◌, List, [], ◌∷◌, ◌++◌, Option, None, refl, ap, sym, ◌∙◌, arith, append_assoc}
 use Rattle.std.proofs.lemmas.List.{append-nil}
 use Rattle.tp_value.specs.Tree.{Tree}
+use Rattle.tp_value.specs.declared.value.Shape.{Shape}
 use Rattle.tp_value.specs.declared.path.Path.{Path}
-use Rattle.tp_store.specs.Facts.{item_path}
-use Rattle.tp_store.specs.Known.{Whole, WholeItems, known, open_at, all_known, item_open_at, and_items, items_known}
+use Rattle.tp_value.specs.declared.path.Fact.{Fact}
+use Rattle.tp_store.specs.Facts.{item_path, kept_shape}
+use Rattle.tp_store.specs.Known.{Whole, WholeItems, known, open_at, all_known, item_open_at, and_items, items_known, with_shape, whole}
 
 -- what is known of some items, after these
 abbrev pub before : List Tree → WholeItems → WholeItems
@@ -35,3 +37,14 @@ pub known_all : (item : Path → Whole) (p : Path) (n k : ℕ) (ts : List Tree) 
 known_all item p n k ts h =
     let e : n - k ≡ 0 = omega arith in
     ap (λ m. before ts (items_known item p m k)) e ∙ ap all_known (append-nil ts)
+
+-- by the shape that is kept
+pub whole_step : (d : ℕ) (fs : List Fact) (p : Path) (o : Option Shape) → 0 < d → kept_shape fs p ≡ o → whole d fs p ≡ with_shape (whole (d - 1) fs) p o
+whole_step zero fs p o l e = absurd (omega (arith, l))
+whole_step (suc d) fs p o l e =
+    let m : suc d - 1 ≡ d = omega arith in
+    ap (with_shape (whole d fs) p) e ∙ ap (λ n. with_shape (whole n fs) p o) (sym m)
+
+pub whole_open : (d : ℕ) (fs : List Fact) (p : Path) → kept_shape fs p ≡ None → whole d fs p ≡ open_at p
+whole_open zero fs p e = refl
+whole_open (suc d) fs p e = ap (with_shape (whole d fs) p) e

@@ -7,7 +7,7 @@ ghost use Rattle.tp_store.specs.Known.{NoClash, addition, adds, deepest, facts_b
 ghost use Rattle.tp_store.specs.Changes.{HasAppended, HaveSameShapes};
 ghost use Rattle.tp_store.specs.FactMap.{AreOf, AreOfKind, IsNewFact, IsNumberOrTruth};
 ghost use Rattle.tp_store.specs.Nodes.{edges_in, nodes_in, node_from, facts_in_tree, item_shape, path_along, way_of, IsTree, IsCutOff, ArePlainItems, LacksShape};
-ghost use Rattle.tp_store.specs.Answers.{IsNoted};
+ghost use Rattle.tp_store.specs.Answers.{whole_of, IsNoted};
 ghost use Rattle.tp_store.specs.Wholes.{AreOfOthers};
 ghost use Rattle.tp_store.specs.KeptValue.{CountsPlain, IsSaidWith, Replaces};
 ghost use Rattle.tp_value.specs.Read.{tree};
@@ -17,6 +17,7 @@ ghost use Rattle.tp_value.specs.declared.value.Value.{Value as ValueSeen};
 
 use crate::clash::{clashes, is_earlier};
 use crate::copies::{Which, copy_facts};
+use crate::full::{Found, item_path, open, whole_at};
 use crate::judge::judge_in;
 use crate::keeping::{keep_facts, keep_shape};
 use crate::nodes::Nodes;
@@ -247,14 +248,6 @@ impl FactMap {
         self.nodes.kept(path)
     }
 
-    /// The greatest number of indices of a kept path.
-    pub fn depth(&self) -> u64
-        ensures value { result ≡ deepest self.now.facts }
-        ensures bound { result < 2 ^ 63 }
-    {
-        self.depth
-    }
-
     /// Whether a fact gives a proper prefix of the path a shape that has no such element.
     pub fn excludes(&self, path: &Path) -> bool
         ensures { result ≡ is_excluded self.now.facts path.now }
@@ -279,6 +272,39 @@ impl FactMap {
         } else {
             None
         }
+    }
+
+    // The whole value at the path, or the first path of it without a shape, by all items from the first on.
+    fn whole_by_items(&self, alloc: Global, path: &Path) -> Result<Found, NoMemory>
+        ensures { IfOk result (λ found. whole_of found
+            ≡ whole (suc (deepest self.now.facts)) self.now.facts path.now) }
+    {
+        let _count = self.nodes.count();
+        if path.var.lasting == self.lasting {
+            if let Some(found) = self.nodes.find(path) {
+                let mut node = found;
+                let whole = whole_at(alloc, &self.nodes, path, self.depth + 1, &mut node)?;
+                return Ok(whole);
+            }
+        }
+        let first = open(path)?;
+        Ok(first)
+    }
+
+    /// The whole value at the path, or the first path of it without a shape.
+    pub fn whole(&self, alloc: Global, path: &Path) -> Result<Found, NoMemory>
+        ensures { IfOk result (λ found. whole_of found
+            ≡ whole (suc (deepest self.now.facts)) self.now.facts path.now) }
+    {
+        // a list whose items come one by one isn't read from the first on each time
+        if self.depth > 0 {
+            if let Some(index) = self.open_item(path) {
+                let inner = item_path(path, index)?;
+                return Ok(Found::Open(inner));
+            }
+        }
+        let found = self.whole_by_items(alloc, path)?;
+        Ok(found)
     }
 
     /// The value of the whole variable, where it is kept beside the facts.

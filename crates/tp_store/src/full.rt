@@ -10,9 +10,11 @@ ghost use Rattle.tp_store.specs.Known.{full, value, whole, list_of_items, items_
 ghost use Rattle.tp_store.specs.Stock.{contents_in};
 ghost use Rattle.tp_store.specs.Changes.{IsSoundStore};
 ghost use Rattle.tp_store.specs.Facts.{item_path};
+ghost use Rattle.tp_store.specs.Nodes.{edges_in, facts_in_tree, node_from, way_of, IsTree};
 ghost use Rattle.tp_store.specs.Answers.{full_of, whole_of};
 
 use crate::fact_map::FactMap;
+use crate::nodes::Nodes;
 use crate::store::{Store, part};
 use std::alloc::Global;
 use std::rc::Rc;
@@ -28,7 +30,7 @@ pub enum Known {
     Value(Value),
 }
 
-// The whole value, or the first path without a shape.
+/// The whole value, or the first path without a shape.
 #[derive(Drop)]
 pub enum Found {
     Whole(Value),
@@ -54,30 +56,41 @@ pub fn go_to(inner: &mut Path, index: u32)
     inner.at.items[last] = index;
 }
 
-fn open(path: &Path) -> Result<Found, NoMemory>
+/// The path is the first one without a shape.
+pub fn open(path: &Path) -> Result<Found, NoMemory>
     ensures { IfOk result (λ found. found ≡ Found.Open path.now) }
 {
     let path = path.copy()?;
     Ok(Found::Open(path))
 }
 
-// The items of the list at the path, of which there are so many.
+// The items of the list at the path, of which there are so many; the path leads to the node, which becomes the last that was come to.
 #[cycle(whole)]
 fn items_at(
     alloc: Global,
-    facts: &FactMap,
+    nodes: &Nodes,
     path: &Path,
     count: u32,
     deeper: u64,
+    node: &mut u64,
 ) -> Result<Found, NoMemory>
+    requires tree { IsTree nodes.now }
+    requires way { node_from (edges_in nodes.now) (way_of path.now) 0 ≡ Some node.old }
     ensures { IfOk result (λ found. whole_of found
-        ≡ list_of_items (items_known (whole deeper facts.now.facts) path.now count 0)) }
+        ≡ list_of_items (items_known
+        (whole deeper (facts_in_tree path.now.var.lasting nodes.now)) path.now count 0)) }
 {
+    let _count = nodes.count();
+    let list = *node;
     let mut items = Vec::new(alloc);
     let mut inner = item_path(path, 0)?;
     for k in 0..count {
         go_to(&mut inner, k);
-        match whole_at(alloc, facts, &inner, deeper)? {
+        let Some(item) = nodes.child_behind(*node, list, u64::from(k)) else {
+            return Ok(Found::Open(inner));
+        };
+        *node = item;
+        match whole_at(alloc, nodes, &inner, deeper, node)? {
             Found::Whole(v) => items.push(v)?,
             Found::Open(q) => return Ok(Found::Open(q)),
         }
@@ -85,27 +98,31 @@ fn items_at(
     Ok(Found::Whole(Value::List(Items { items })))
 }
 
-// The whole value at the path, where no path of the list has as many indices more.
+/// The whole value at the path, where no path of the tree has as many indices more. The path leads to the node, which becomes the last that
+/// was come to: mostly the next item is right behind it.
 #[cycle(whole)]
-fn whole_at(alloc: Global, facts: &FactMap, path: &Path, deeper: u64) -> Result<Found, NoMemory>
-    ensures { IfOk result (λ found. whole_of found ≡ whole deeper facts.now.facts path.now) }
+pub fn whole_at(
+    alloc: Global,
+    nodes: &Nodes,
+    path: &Path,
+    deeper: u64,
+    node: &mut u64,
+) -> Result<Found, NoMemory>
+    requires tree { IsTree nodes.now }
+    requires way { node_from (edges_in nodes.now) (way_of path.now) 0 ≡ Some node.old }
+    ensures { IfOk result (λ found. whole_of found
+        ≡ whole deeper (facts_in_tree path.now.var.lasting nodes.now) path.now) }
 {
+    let _count = nodes.count();
     if deeper == 0 {
         let found = open(path)?;
         return Ok(found);
     }
-    match facts.shape(path) {
+    match nodes.shape(*node) {
         Some(Shape::Num(n)) => Ok(Found::Whole(Value::Num(n))),
         Some(Shape::Truth(b)) => Ok(Found::Whole(Value::Truth(b))),
         Some(Shape::Items(count)) => {
-            // a list whose items come one by one isn't read from the first on each time
-            if deeper > 1 {
-                if let Some(index) = facts.open_item(path) {
-                    let inner = item_path(path, index)?;
-                    return Ok(Found::Open(inner));
-                }
-            }
-            let found = items_at(alloc, facts, path, count, deeper - 1)?;
+            let found = items_at(alloc, nodes, path, count, deeper - 1, node)?;
             Ok(found)
         }
         None => {
@@ -138,7 +155,7 @@ pub fn full_in(alloc: Global, facts: &FactMap, path: &Path) -> Result<Known, NoM
     if facts.excludes(path) {
         return Ok(Known::Absent);
     }
-    match whole_at(alloc, facts, path, facts.depth() + 1)? {
+    match facts.whole(alloc, path)? {
         Found::Open(q) => Ok(Known::Open(q)),
         Found::Whole(v) => {
             if is_within_list_limit(&v) {
