@@ -29,6 +29,6 @@ pub use number_set::NumberSet;
 pub use scene::{Holder, Mark, Region, Scene, Slot, What};
 pub use settle::first_unsettled;
 pub use sharing::become_sharing;
-pub use status::mark;
+pub use status::{mark, root_mark};
 pub use values::{copy_values, shown};
 pub use walk::{items, items_inside};

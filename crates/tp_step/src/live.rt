@@ -10,7 +10,7 @@ ghost use Rattle.tp_step.specs.Meaning.{EndMeans};
 
 use crate::answer::{ItemIds, Settled};
 use std::alloc::Global;
-use tp_slots::{Mark, Scene, first_unsettled, mark};
+use tp_slots::{Mark, Scene, first_unsettled, root_mark};
 use tp_value::NoMemory;
 
 /// Appends the live items in walk order, or changes nothing.
@@ -29,11 +29,10 @@ fn by_root(scene: &Scene) -> Settled
     requires { IsWellKept scene.now }
     ensures { settled_of result ≡ rest.settled_by [] (root_place (scene_of scene.now).root) }
 {
-    match mark(scene, 0) {
-        Some(Mark::Ends) => Settled::Ends,
-        Some(Mark::Goes) => Settled::Goes,
-        Some(Mark::Open) => Settled::EndOpen,
-        None => unreachable!(),
+    match root_mark(scene) {
+        Mark::Ends => Settled::Ends,
+        Mark::Goes => Settled::Goes,
+        Mark::Open => Settled::EndOpen,
     }
 }
 
