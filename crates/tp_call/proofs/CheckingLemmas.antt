@@ -1,5 +1,7 @@
 -- What is read to check a trace, and what is refused of it.
-use Rattle.std.proofs.Common.{◌≡◌, ◌≢◌, ◌≤◌, ◌<◌, ◌^◌, inl, inr, ℕ, List, ◌∷◌, [], length, Option, None, Some, Result, Err, IfErr, true, false, refl, sym, ap, ◌∙◌, arith, subst}
+use Rattle.std.proofs.Common.{◌≡◌, ◌≢◌, ◌≤◌, ◌<◌, ◌^◌, inl, inr, ℕ, List, ◌∷◌, [], length, Option, None, Some, Result, Err, IfErr, Bool, true, false, if◌then◌else◌, refl, sym, ap, ◌∙◌, arith, subst}
+use Rattle.std.specs.List.{list_all}
+use Rattle.std.specs.Str.{is_utf8}
 use Rattle.std.specs.Str.Lines.{lines}
 use Rattle.tp_inputs.proofs.ConvertedEnds.{few_lines}
 use Rattle.tp_io.specs.Held.{Held, bytes_of}
@@ -16,7 +18,8 @@ use Rattle.tp_monitor.specs.Told.{state_limit}
 use Rattle.tp_words.specs.declared.mode.Mode.{Mode}
 use Rattle.tp_words.specs.declared.mode.Mode.TheVariants.{Check}
 use Rattle.tp_words.specs.Options.{has_other}
-use Rattle.tp_words.specs.Words.{Wanted, wanted_of}
+use Rattle.tp_words.specs.Words.{Wanted, wanted_of, wanted_of_texts}
+use Rattle.tp_words.proofs.WordsLemmas.{texts_limits}
 use Rattle.tp_call.specs.declared.source.ReadRefusal.{ReadRefusal}
 use Rattle.tp_call.specs.declared.source.ReadRefusal.TheVariants as read
 use Rattle.tp_call.specs.declared.status.Refused.{Refused}
@@ -76,10 +79,15 @@ pub not_many : {T : Type 0} (bytes : List ℕ) (trace : List (List NamedFact)) (
 not_many bytes trace states h within (other, holds, count, more) =
     let same : length trace ≡ length other = ap length (one_told bytes trace other h holds) in absurd (omega (arith, same, count, more, within))
 
--- words that need another file name one
-pub no_name_missing : (mode : Mode) (other : Option (List ℕ)) → mode ≡ Check → has_other mode other ≡ true → other ≡ None → ⊥
-no_name_missing mode other is has none =
-    let bad : false ≡ true = sym (ap (λ (m : Mode). has_other m None) is) ∙ ap (has_other mode) (sym none) ∙ has in cc
+with_name : (words : List (List ℕ)) (wanted : Wanted) (b : Bool) → (if b then wanted_of_texts words else None) ≡ Some wanted → has_other wanted.mode wanted.other ≡ true
+with_name words wanted true is = (texts_limits words wanted is).2
+with_name words wanted false is = cc
+
+-- accepted words of a check name a trace
+pub no_name_missing : (words : List (List ℕ)) (wanted : Wanted) → wanted_of words ≡ Some wanted → wanted.mode ≡ Check → wanted.other ≡ None → ⊥
+no_name_missing words wanted is mode none =
+    let has = with_name words wanted (list_all is_utf8 words) is in
+    let bad : false ≡ true = sym (ap (λ (m : Mode). has_other m None) mode) ∙ ap (has_other wanted.mode) (sym none) ∙ has in cc
 
 module _ (words : List (List ℕ)) (held : Option Held) (wanted : Wanted) (accepted : wanted_of words ≡ Some wanted) (mode : wanted.mode ≡ Check) (name : List ℕ) (named : wanted.other ≡ Some name) (wide : NamedWide)
     (source : WhereTold held (λ files. HoldsWide wide (bytes_of files wanted.file))) where

@@ -1,5 +1,5 @@
 // Checking a trace by a wider formula.
-ghost use Rattle.std.specs.Prelude.{◌≡◌, ◌≤◌, ◌<◌, List, ℕ, true, Err, length, IfOk, IfErr, option_map, string_bytes};
+ghost use Rattle.std.specs.Prelude.{◌≡◌, ◌≤◌, ◌<◌, List, ℕ, Err, length, IfOk, IfErr};
 ghost use Rattle.tp_lex.specs.Place.{source_limit};
 ghost use Rattle.tp_io.specs.Held.{Rose, bytes_of};
 ghost use Rattle.tp_meaning.specs.Interval.{kinds_of};
@@ -8,7 +8,6 @@ ghost use Rattle.tp_verdict.specs.Code.{verdict_of};
 ghost use Rattle.tp_verdict.specs.Read.{wide_tree};
 ghost use Rattle.tp_verdict.specs.Trace.{WideFits};
 ghost use Rattle.tp_monitor.specs.Seen.{wide_seen};
-ghost use Rattle.tp_words.specs.Options.{has_other};
 ghost use Rattle.tp_words.specs.declared.mode.Mode.TheVariants.{Check};
 ghost use Rattle.tp_call.specs.declared.status.Which.{Which};
 ghost use Rattle.tp_call.specs.Answer.{trace_limit, WhereTold, HoldsWide, HoldsTrace, IsJudged};
@@ -123,9 +122,7 @@ pub fn verdict_for<F: Files>(
     command: &Command,
     files: &mut F,
 ) -> Result<Verdict, Status>
-    requires mode { command.now.mode ≡ Check }
-    requires other { has_other command.now.mode (option_map string_bytes command.now.other)
-        ≡ true }
+    requires { command.now.mode ≡ Check }
     ensures judged { IfOk result (λ v. (words : List (List ℕ)) → AsksFor words command.now
         → IsJudged words (F.held files.old) (verdict_of v)) }
     ensures refused { IfErr result (λ status. (words : List (List ℕ)) → AsksFor words command.now
@@ -138,11 +135,12 @@ pub fn verdict_for<F: Files>(
     ensures read_fault { (which : Which) → result ≡ Err (Status.ReadFault which)
         → Rose F.greatest (F.faults files.old) (F.faults files.new) }
 {
+    // words that name no trace are no words of a check
+    let Some(name) = command.other.as_deref() else {
+        return Err(Status::WordsRefused);
+    };
     let wide = read_formula(alloc, command.file.as_str(), files)?;
-    match command.other.as_deref() {
-        Some(name) => judge(alloc, &wide, name, files),
-        None => unreachable!(),
-    }
+    judge(alloc, &wide, name, files)
 }
 
 // The line of a verdict.

@@ -1,7 +1,6 @@
 // What the words ask for.
-ghost use Rattle.std.specs.Prelude.{◌≡◌, true, Some, IfOk, IfErr, option_map, string_bytes};
+ghost use Rattle.std.specs.Prelude.{◌≡◌, Some, IfOk, IfErr};
 ghost use Rattle.tp_words.specs.Command.{wanted_by};
-ghost use Rattle.tp_words.specs.Options.{has_other};
 ghost use Rattle.tp_words.specs.Subject.{HasSize};
 ghost use Rattle.tp_words.specs.Words.{wanted_of};
 ghost use Rattle.tp_call.specs.Parts.{IsWordsRefusal};
@@ -15,8 +14,6 @@ use tp_words::{Command, WordsRefusal, read_words};
 pub fn command_for(alloc: Global, words: &[Text]) -> Result<Command, Status>
     ensures accepted { IfOk result (λ c. wanted_of words.now ≡ Some (wanted_by c)) }
     ensures refused { IfErr result (IsWordsRefusal words.now) }
-    ensures other { IfOk result (λ c.
-        has_other c.mode (option_map string_bytes c.other) ≡ true) }
     ensures size { IfOk result (λ c. HasSize c.mode) }
 {
     match read_words(alloc, words) {

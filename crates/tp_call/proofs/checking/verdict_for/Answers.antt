@@ -13,15 +13,25 @@ use Rattle.tp_call.proofs.SourceLemmas.{no_source, lent_name}
 use Rattle.tp_call.proofs.CheckingLemmas.{no_verdict, is_judged, no_name_missing}
 use Rattle.tp_call.proofs.checking.verdict_for.Goals as goal
 
+pub returns-in_default-clause-refused : goal.returns-in_default-clause-refused
+returns-in_default-clause-refused g c =
+    let lent = lent_name (λ t. t.now) string_bytes c.as_deref.result c.args.command.now.other c.as_deref.ensures.cases in
+    λ words is. absurd (no_name_missing words (wanted_by c.args.command.now) is c.requires (sym lent ∙ ap (option_map (λ t. t.now)) c.in_default.is))
+
+pub returns-in_default-clause-asked : goal.returns-in_default-clause-asked
+returns-in_default-clause-asked g c =
+    let lent = lent_name (λ t. t.now) string_bytes c.as_deref.result c.args.command.now.other c.as_deref.ensures.cases in
+    λ words is. absurd (no_name_missing words (wanted_by c.args.command.now) is c.requires (sym lent ∙ ap (option_map (λ t. t.now)) c.in_default.is))
+
 pub returns-in_err-wide-clause-refused : goal.returns-in_err-wide-clause-refused
 returns-in_err-wide-clause-refused g c =
     let p = err_from_is_err_and c.from_residual.result c.from_residual.ensures.1 in
-    rw (p.1, p.2) (λ words is. no_source _ _ (wanted_by c.args.command.now) is Check _ _ c.requires.mode refl (rw c.as_str.ensures.value at c.in_err-wide.ensures.refused))
+    rw (p.1, p.2) (λ words is. no_source _ _ (wanted_by c.args.command.now) is Check _ _ c.requires refl (rw c.as_str.ensures.value at c.in_err-wide.ensures.refused))
 
 pub returns-in_err-wide-clause-asked : goal.returns-in_err-wide-clause-asked
 returns-in_err-wide-clause-asked g c =
     let p = err_from_is_err_and c.from_residual.result c.from_residual.ensures.1 in
-    rw (p.1, p.2) (λ words is. first_asked _ _ (wanted_by c.args.command.now) is Check Source _ _ c.requires.mode refl _ _ _ _ (rw c.as_str.ensures.value at c.in_err-wide.ensures.asked)
+    rw (p.1, p.2) (λ words is. first_asked _ _ (wanted_by c.args.command.now) is Check Source _ _ c.requires refl _ _ _ _ (rw c.as_str.ensures.value at c.in_err-wide.ensures.asked)
     (λ which e. same_error _ _ _ (ReadFault which) refl refl e) (λ which e. (c.in_err-wide.ensures.read_fault which e).0))
 
 pub returns-clause-judged : goal.returns-clause-judged
@@ -29,23 +39,18 @@ returns-clause-judged g c =
     let lent = lent_name (λ t. t.now) string_bytes c.as_deref.result c.args.command.now.other c.as_deref.ensures.cases in
     let named = sym lent ∙ ap (option_map (λ t. t.now)) c.in-Some.is in
     MatchResult-weaker c.judge.result c.judge.ensures.verdict
-    (λ v by. λ words is. is_judged _ _ (wanted_by c.args.command.now) is c.requires.mode _ named _ (rw c.as_str.ensures.value at c.in_ok-wide.ensures.wide) _ c.in_ok-wide.ensures.held (verdict_of v) c.in_ok-wide.ensures.fits by) (λ status any. any)
+    (λ v by. λ words is. is_judged _ _ (wanted_by c.args.command.now) is c.requires _ named _ (rw c.as_str.ensures.value at c.in_ok-wide.ensures.wide) _ c.in_ok-wide.ensures.held (verdict_of v) c.in_ok-wide.ensures.fits by) (λ status any. any)
 
 pub returns-clause-refused : goal.returns-clause-refused
 returns-clause-refused g c =
     let lent = lent_name (λ t. t.now) string_bytes c.as_deref.result c.args.command.now.other c.as_deref.ensures.cases in
     let named = sym lent ∙ ap (option_map (λ t. t.now)) c.in-Some.is in
     MatchResult-weaker c.judge.result c.judge.ensures.refused (λ v any. any)
-    (λ status end. λ words is. no_verdict _ _ (wanted_by c.args.command.now) is c.requires.mode _ named (wide_seen c.in_ok-wide.wide) (rw c.as_str.ensures.value at c.in_ok-wide.ensures.wide) _ c.in_ok-wide.ensures.held status end)
+    (λ status end. λ words is. no_verdict _ _ (wanted_by c.args.command.now) is c.requires _ named (wide_seen c.in_ok-wide.wide) (rw c.as_str.ensures.value at c.in_ok-wide.ensures.wide) _ c.in_ok-wide.ensures.held status end)
 
 pub returns-clause-asked : goal.returns-clause-asked
 returns-clause-asked g c = λ words is.
     let lent = lent_name (λ t. t.now) string_bytes c.as_deref.result c.args.command.now.other c.as_deref.ensures.cases in
     let named = sym lent ∙ ap (option_map (λ t. t.now)) c.in-Some.is in
-    other_asked _ _ (wanted_by c.args.command.now) is c.requires.mode (wide_serves _ _ c.requires.mode (wide_seen c.in_ok-wide.wide) _ (rw c.as_str.ensures.value at c.in_ok-wide.ensures.wide)) _ _ _ _ named _ _ refl (rw c.as_str.ensures.value at c.in_ok-wide.ensures.asked) c.judge.result c.judge.ensures.asked _
+    other_asked _ _ (wanted_by c.args.command.now) is c.requires (wide_serves _ _ c.requires (wide_seen c.in_ok-wide.wide) _ (rw c.as_str.ensures.value at c.in_ok-wide.ensures.wide)) _ _ _ _ named _ _ refl (rw c.as_str.ensures.value at c.in_ok-wide.ensures.asked) c.judge.result c.judge.ensures.asked _
     (λ which e. e) (λ which e. (c.judge.ensures.read_fault which e).0)
-
-pub unreachable-requires : goal.unreachable-requires
-unreachable-requires g c =
-    let lent = lent_name (λ t. t.now) string_bytes c.as_deref.result c.args.command.now.other c.as_deref.ensures.cases in
-    no_name_missing _ _ c.requires.mode c.requires.other (sym lent ∙ ap (option_map (λ t. t.now)) c.in-None.is)
