@@ -69,10 +69,7 @@ fn find_place(
 {
     match place(alloc, expr, env, store, setting.defs)? {
         PlaceOutcome::Place(path) => Ok(Ok(Binding::Place(path))),
-        PlaceOutcome::Other(outcome) => {
-            let bound = known(alloc, value(outcome))?;
-            Ok(bound)
-        }
+        PlaceOutcome::Other(outcome) => known(alloc, value(outcome)),
     }
 }
 
@@ -98,15 +95,13 @@ fn find_binding(
         return Ok(Ok(Binding::Known(value)));
     }
     if is_upper(parameter) {
-        let bound = find_place(alloc, expr, env, store, setting)?;
-        Ok(bound)
+        find_place(alloc, expr, env, store, setting)
     } else if let Some(value) = kept_value(alloc, expr, env, store) {
         let value = value.clone()?;
         Ok(Ok(Binding::Known(value)))
     } else {
         let found = find_value(alloc, expr, env, store, setting)?;
-        let bound = known(alloc, found)?;
-        Ok(bound)
+        known(alloc, found)
     }
 }
 
@@ -192,10 +187,7 @@ pub fn decide_call(
     ensures plain { IfOk result IsPlain }
 {
     match definition(setting.defs, number) {
-        Some(def) => {
-            let decision = unfold(alloc, def, exprs, env, store, setting)?;
-            Ok(decision)
-        }
+        Some(def) => unfold(alloc, def, exprs, env, store, setting),
         None => Ok(no_element()),
     }
 }

@@ -73,6 +73,5 @@ pub fn bind_number(alloc: Global, env: &Env, n: Number) -> Result<Rc<Env>, NoMem
         bindings_of e.value ≡ bindings_of env.now ++ known_binding (num n) ∷ []) }
 {
     let value = Rc::new(alloc, Value::Num(n))?;
-    let bound = bind_last(alloc, env, Binding::Known(value))?;
-    Ok(bound)
+    bind_last(alloc, env, Binding::Known(value))
 }

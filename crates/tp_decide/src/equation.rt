@@ -335,8 +335,7 @@ pub fn decide_equation(
     ensures variables { IfOk result (SetsVariables store.now.variables) }
 {
     if let Some((left, right)) = both_paths(alloc, left, right, env, store, setting)? {
-        let decision = equate_places(alloc, left, right, store)?;
-        return Ok(decision);
+        return equate_places(alloc, left, right, store);
     }
     let left = side_of(alloc, left, env, store, setting.defs)?;
     if let Some(decision) = hand_on(&left, right)? {

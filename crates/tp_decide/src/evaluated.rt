@@ -97,10 +97,7 @@ pub fn decide_len(alloc: Global, found: Outcome, env: &Rc<Env>) -> Result<Decisi
     ensures plain { IfOk result IsPlain }
 {
     match number(found) {
-        Ok(left) => {
-            let decision = decide_length(alloc, left, env)?;
-            Ok(decision)
-        }
+        Ok(left) => decide_length(alloc, left, env),
         Err(decision) => Ok(decision),
     }
 }
@@ -173,8 +170,7 @@ fn equal_after(
 {
     let equal = equation(alloc, target, value)?;
     let whole = under_nexts(alloc, count - 1, equal)?;
-    let decision = decide_next(&whole, env, place)?;
-    Ok(decision)
+    decide_next(&whole, env, place)
 }
 
 /// The target has the value after so many states.

@@ -144,8 +144,7 @@ pub fn side_of(
     if is_place(expr) {
         match place(alloc, expr, env, store, defs)? {
             PlaceOutcome::Place(path) => {
-                let side = side_at(path, store)?;
-                return Ok(side);
+                return side_at(path, store);
             }
             PlaceOutcome::Other(found) => {
                 return Ok(EquationSide {

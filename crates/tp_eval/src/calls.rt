@@ -64,8 +64,7 @@ pub fn eval(
     };
     let mut calls = 0;
     let answer = evaluate(LEVELS, expr, &lookup, &mut calls);
-    let outcome = settled(answer)?;
-    Ok(outcome)
+    settled(answer)
 }
 
 // A path, or the element of a known value.
@@ -109,10 +108,7 @@ pub fn place(
     }
     let mut calls = 0;
     match find_place(LEVELS, expr, &lookup, &mut calls) {
-        Ok(found) => {
-            let outcome = path_or_value(alloc, found, store)?;
-            Ok(outcome)
-        }
+        Ok(found) => path_or_value(alloc, found, store),
         Err(halt) => {
             let other = halted(halt)?;
             Ok(PlaceOutcome::Other(other))

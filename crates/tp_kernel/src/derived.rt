@@ -77,8 +77,7 @@ pub fn stable(alloc: Global, a: Rc<Expr>) -> Result<Formula, NoMemory>
     ensures meaning { IfOk result (λ f. Means (formula_tree f) (Stable (expr_tree a.value))) }
 {
     let again = a.clone()?;
-    let keeps = gets(alloc, a, again)?;
-    Ok(keeps)
+    gets(alloc, a, again)
 }
 
 /// `a := e`: the length is 1, and a's value in the last state is e's in the first; nothing is shown.
@@ -91,8 +90,7 @@ pub fn becomes(alloc: Global, a: Rc<Expr>, e: Rc<Expr>) -> Result<Formula, NoMem
     let skip = skip(alloc)?;
     let one = Rc::new(alloc, skip)?;
     let next = Rc::new(alloc, Formula::NextEq(1, a, e))?;
-    let step = both(alloc, one, next)?;
-    Ok(step)
+    both(alloc, one, next)
 }
 
 /// `repeat w until b`: w holds up to some state, and from there along strictly rising cuts to the end; b is false at each cut but
@@ -131,6 +129,5 @@ pub fn next_equals(alloc: Global, k: u32, t: Rc<Expr>, e: Rc<Expr>) -> Result<Fo
 {
     let more = Rc::new(alloc, Formula::More)?;
     let next = Rc::new(alloc, Formula::NextEq(k, t, e))?;
-    let later = both(alloc, more, next)?;
-    Ok(later)
+    both(alloc, more, next)
 }

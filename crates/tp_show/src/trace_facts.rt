@@ -120,13 +120,11 @@ fn add_part(store: &mut Store, var: VarId, part: &ReadPart) -> Result<Facts, Add
     match part {
         ReadPart::Given(path, value) => {
             let at = path.at.copy()?;
-            let news = store.add(&Path { var, at }, value)?;
-            Ok(news)
+            store.add(&Path { var, at }, value)
         }
         ReadPart::Measured(path, length) => {
             let at = path.at.copy()?;
-            let news = store.add_length(&Path { var, at }, *length)?;
-            Ok(news)
+            store.add_length(&Path { var, at }, *length)
         }
     }
 }

@@ -78,8 +78,7 @@ pub fn become_split(
     ensures err { OnErr result (IsUnchanged scene.old scene.new) }
 {
     let left = scene.regions.len() as u64;
-    let fresh = become_holder(alloc, scene, item, first, Holder::Split { left, after })?;
-    Ok(fresh)
+    become_holder(alloc, scene, item, first, Holder::Split { left, after })
 }
 
 /// The outer region of a projection stands in an item's place, with the piece that is to run in it. What
@@ -104,8 +103,7 @@ pub fn become_opened(
     ensures err { OnErr result (IsUnchanged scene.old scene.new) }
 {
     let outer = scene.regions.len() as u64;
-    let fresh = become_holder(alloc, scene, item, first, Holder::Opened { outer, piece })?;
-    Ok(fresh)
+    become_holder(alloc, scene, item, first, Holder::Opened { outer, piece })
 }
 
 /// The same phrase, shared.
@@ -146,8 +144,7 @@ fn begun_items(alloc: Global, what: &What) -> Result<Vec<What>, NoMemory>
         What::Holder(Holder::Opened { piece, .. }) => {
             let first = What::Leaf(Leaf::Do(share(piece)?));
             let more = What::Leaf(Leaf::Do(more_under(alloc, piece)?));
-            let list = two(alloc, first, more)?;
-            Ok(list)
+            two(alloc, first, more)
         }
         What::Holder(Holder::Split { .. } | Holder::SplitProject { .. }) => Ok(Vec::new(alloc)),
         What::Holder(Holder::Closed(_) | Holder::Running { .. }) => Ok(Vec::new(alloc)),
@@ -163,8 +160,7 @@ fn next_items(alloc: Global, what: &What, region: u64) -> Result<Vec<What>, NoMe
         What::Holder(Holder::Split { left, after }) => {
             let closed = What::Holder(Holder::Closed(*left));
             let after = What::Leaf(Leaf::Do(share(after)?));
-            let list = two(alloc, closed, after)?;
-            Ok(list)
+            two(alloc, closed, after)
         }
         What::Holder(Holder::SplitProject { left, outer, piece }) => {
             let closed = What::Holder(Holder::Closed(*left));
@@ -172,8 +168,7 @@ fn next_items(alloc: Global, what: &What, region: u64) -> Result<Vec<What>, NoMe
                 outer: *outer,
                 piece: share(piece)?,
             });
-            let list = two(alloc, closed, opened)?;
-            Ok(list)
+            two(alloc, closed, opened)
         }
         What::Holder(Holder::Opened { outer, piece }) => {
             let running = What::Holder(Holder::Running {
@@ -181,8 +176,7 @@ fn next_items(alloc: Global, what: &What, region: u64) -> Result<Vec<What>, NoMe
                 outer: *outer,
                 piece: share(piece)?,
             });
-            let list = one(alloc, running)?;
-            Ok(list)
+            one(alloc, running)
         }
         What::Holder(Holder::Closed(_) | Holder::Running { .. }) => Ok(Vec::new(alloc)),
         What::Leaf(_) | What::Gone { .. } => Ok(Vec::new(alloc)),
@@ -199,10 +193,7 @@ fn moved_items(alloc: Global, scene: &Scene, item: u64) -> Result<SmallVec<u64, 
     let first = scene.slots.len() as u64;
     match &scene.slots[item as usize].what {
         What::Holder(holder) => match holder {
-            Holder::Split { .. } => {
-                let fresh = numbers(alloc, first, 2)?;
-                Ok(fresh)
-            }
+            Holder::Split { .. } => numbers(alloc, first, 2),
             Holder::SplitProject { outer, .. } => {
                 let mut fresh = numbers(alloc, first, 1)?;
                 let woken = items_inside(alloc, scene, *outer)?;
@@ -210,10 +201,7 @@ fn moved_items(alloc: Global, scene: &Scene, item: u64) -> Result<SmallVec<u64, 
                 fresh.push(first + 1)?;
                 Ok(fresh)
             }
-            Holder::Opened { .. } => {
-                let fresh = numbers(alloc, first, 3)?;
-                Ok(fresh)
-            }
+            Holder::Opened { .. } => numbers(alloc, first, 3),
             Holder::Closed(_) | Holder::Running { .. } => Ok(SmallVec::new(alloc)),
         },
         What::Leaf(_) | What::Gone { .. } => Ok(SmallVec::new(alloc)),

@@ -182,6 +182,5 @@ pub fn items(alloc: Global, scene: &Scene) -> Result<Vec<u64>, NoMemory>
     requires { IsWellKept scene.now }
     ensures { IfOk result (λ v. v.items ≡ live_items (scene_of scene.now).root.entries) }
 {
-    let ids = items_inside(alloc, scene, 0)?;
-    Ok(ids)
+    items_inside(alloc, scene, 0)
 }

@@ -25,6 +25,5 @@ pub fn start(alloc: Global, main: &Rc<Formula>) -> Result<Scene, NoMemory>
         items: Vec::new(alloc),
     };
     let env = Rc::new(alloc, env)?;
-    let scene = tp_slots::start(alloc, Phrase { what, env })?;
-    Ok(scene)
+    tp_slots::start(alloc, Phrase { what, env })
 }

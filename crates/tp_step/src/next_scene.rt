@@ -123,10 +123,7 @@ fn whole(alloc: Global, what: &What) -> Result<Successor, NoMemory>
             let leaf = copy_leaf(alloc, leaf)?;
             Ok(Successor::Bare(leaf))
         }
-        What::Holder(holder) => {
-            let next = whole_holder(holder)?;
-            Ok(next)
-        }
+        What::Holder(holder) => whole_holder(holder),
         What::Gone { .. } => Ok(Successor::Nothing),
     }
 }
@@ -169,14 +166,8 @@ fn leave(alloc: Global, what: &What, extent: Extent) -> Result<Successor, NoMemo
     ensures { IfOk result (λ x. successor_of x ≡ successor_in extent (what_of what.now)) }
 {
     match extent {
-        Extent::Whole => {
-            let next = whole(alloc, what)?;
-            Ok(next)
-        }
-        Extent::Due => {
-            let next = due(what)?;
-            Ok(next)
-        }
+        Extent::Whole => whole(alloc, what),
+        Extent::Due => due(what),
     }
 }
 

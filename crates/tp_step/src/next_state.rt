@@ -21,6 +21,5 @@ pub fn advance(alloc: Global, scene: Scene) -> Result<Scene, NoMemory>
     ensures means { IfOk result (AdvanceMeans scene) }
     ensures sound { IfOk result (AdvanceIsSound scene) }
 {
-    let next = next_scene(alloc, scene)?;
-    Ok(next)
+    next_scene(alloc, scene)
 }

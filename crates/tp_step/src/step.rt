@@ -170,6 +170,5 @@ pub fn try_item<L: Ledger>(
     ensures steps { steps.new ≡ steps.old + 1 }
 {
     steps.tick();
-    let tried = attempt(scene, item, store, setting, room)?;
-    Ok(tried)
+    attempt(scene, item, store, setting, room)
 }

@@ -200,8 +200,7 @@ impl Store {
     {
         let facts = value_facts(self.alloc, path, &value)?;
         let whole = list_of_variable(self.alloc, path, value)?;
-        let news = self.add_facts(path.var, facts, whole)?;
-        Ok(news)
+        self.add_facts(path.var, facts, whole)
     }
 
     // Adds the one fact that the path has this shape.
@@ -218,8 +217,7 @@ impl Store {
     {
         let var = path.var;
         let facts = one_fact(self.alloc, path, shape)?;
-        let news = self.add_facts(var, facts, None)?;
-        Ok(news)
+        self.add_facts(var, facts, None)
     }
 
     /// Adds the one fact that the path is a list of that length, by the rules of `add`.

@@ -283,12 +283,10 @@ impl FactMap {
         if path.var.lasting == self.lasting {
             if let Some(found) = self.nodes.find(path) {
                 let mut node = found;
-                let whole = whole_at(alloc, &self.nodes, path, self.depth + 1, &mut node)?;
-                return Ok(whole);
+                return whole_at(alloc, &self.nodes, path, self.depth + 1, &mut node);
             }
         }
-        let first = open(path)?;
-        Ok(first)
+        open(path)
     }
 
     /// The whole value at the path, or the first path of it without a shape.
@@ -303,8 +301,7 @@ impl FactMap {
                 return Ok(Found::Open(inner));
             }
         }
-        let found = self.whole_by_items(alloc, path)?;
-        Ok(found)
+        self.whole_by_items(alloc, path)
     }
 
     /// The value of the whole variable, where it is kept beside the facts.

@@ -115,20 +115,13 @@ pub fn whole_at(
 {
     let _count = nodes.count();
     if deeper == 0 {
-        let found = open(path)?;
-        return Ok(found);
+        return open(path);
     }
     match nodes.shape(*node) {
         Some(Shape::Num(n)) => Ok(Found::Whole(Value::Num(n))),
         Some(Shape::Truth(b)) => Ok(Found::Whole(Value::Truth(b))),
-        Some(Shape::Items(count)) => {
-            let found = items_at(alloc, nodes, path, count, deeper - 1, node)?;
-            Ok(found)
-        }
-        None => {
-            let found = open(path)?;
-            Ok(found)
-        }
+        Some(Shape::Items(count)) => items_at(alloc, nodes, path, count, deeper - 1, node),
+        None => open(path),
     }
 }
 
@@ -185,7 +178,6 @@ impl Store {
         ensures sound { IsSoundStore (contents_in self.now) }
     {
         let facts = part(&self.state, &self.fixed, path.var.lasting);
-        let known = facts.full(self.alloc, path)?;
-        Ok(known)
+        facts.full(self.alloc, path)
     }
 }

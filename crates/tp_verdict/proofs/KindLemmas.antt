@@ -1,5 +1,5 @@
 -- The tables of the kinds.
-use Rattle.std.proofs.Common.{◌≡◌, ℕ, zero, suc, ◌+◌, ◌-◌, ◌<◌, ◌≤◌, Bool, true, false, List, length, ◌∙◌, ap, sym, refl, arith, eqb, nat_lt, if◌then◌else◌}
+use Rattle.std.proofs.Common.{◌≡◌, ℕ, zero, suc, ◌+◌, ◌-◌, ◌<◌, ◌≤◌, Bool, true, false, List, length, ◌∙◌, ap, sym, refl, arith, eqb, nat_lt, if◌then◌else◌, Result, Ok, Err, IfOk}
 use Rattle.std.proofs.lemmas.Bool.{ltb-true, eqb-true}
 use Rattle.tp_meaning.specs.Syntax.{ExprTree}
 use Rattle.tp_eval.specs.Outcome.{Outcome}
@@ -8,6 +8,10 @@ use Rattle.tp_verdict.specs.Verdict.{Verdict, yes, no, undecided, of_truth, both
 use Rattle.tp_verdict.specs.Trace.{verdict}
 use Rattle.tp_verdict.specs.Stored.{stored, HaveVerdicts}
 use Rattle.tp_verdict.specs.declared.verdict_row.VerdictRow.{VerdictRow}
+
+pub from_both : {X E : Type 0} (r : Result X E) (P Q R : X → Type 0) → ((x : X) → P x → Q x → R x) → IfOk r P → IfOk r Q → IfOk r R
+from_both (Ok x) P Q R f p q = f x p q
+from_both (Err e) P Q R f p q = tt
 
 pub parts_as : (f g : ℕ → ℕ → Verdict) (rows : List VerdictRow) → HaveVerdicts f rows
     → ((i j : ℕ) → i ≤ j → j < length rows → f i j ≡ g i j) → HaveVerdicts g rows

@@ -37,8 +37,7 @@ pub fn branch_table(
     let when = truth_verdicts(alloc, found.as_slice(), true)?;
     let unless = truth_verdicts(alloc, found.as_slice(), false)?;
     let rule = Rule::Branch(when.as_slice(), unless.as_slice(), first, second);
-    let table = ruled_table(alloc, &rule, states.len())?;
-    Ok(table)
+    ruled_table(alloc, &rule, states.len())
 }
 
 /// A loop.
@@ -58,6 +57,5 @@ pub fn while_table(
     let found = outcomes(alloc, condition, states)?;
     let is_true = truth_verdicts(alloc, found.as_slice(), true)?;
     let is_false = truth_verdicts(alloc, found.as_slice(), false)?;
-    let table = looped_table(alloc, is_true.as_slice(), is_false.as_slice(), body)?;
-    Ok(table)
+    looped_table(alloc, is_true.as_slice(), is_false.as_slice(), body)
 }

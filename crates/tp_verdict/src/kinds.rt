@@ -65,8 +65,7 @@ pub fn true_table(alloc: Global, n: usize) -> Result<Table, NoMemory>
     ensures verdicts { IfOk result (λ table. (found : ℕ → ExprTree → found.Outcome)
         → HaveVerdicts (verdict found trivial) table.rows.items) }
 {
-    let table = ruled_table(alloc, &Rule::Fixed(Verdict::Yes), n)?;
-    Ok(table)
+    ruled_table(alloc, &Rule::Fixed(Verdict::Yes), n)
 }
 
 /// `empty`.
@@ -76,8 +75,7 @@ pub fn empty_table(alloc: Global, n: usize) -> Result<Table, NoMemory>
         → HaveVerdicts (verdict found empty) table.rows.items) }
 {
     let rule = Rule::ByLength(Verdict::Yes, Verdict::No);
-    let table = ruled_table(alloc, &rule, n)?;
-    Ok(table)
+    ruled_table(alloc, &rule, n)
 }
 
 /// `more`.
@@ -87,8 +85,7 @@ pub fn more_table(alloc: Global, n: usize) -> Result<Table, NoMemory>
         → HaveVerdicts (verdict found more) table.rows.items) }
 {
     let rule = Rule::ByLength(Verdict::No, Verdict::Yes);
-    let table = ruled_table(alloc, &rule, n)?;
-    Ok(table)
+    ruled_table(alloc, &rule, n)
 }
 
 /// `next w`, by the table of `w`.
@@ -98,8 +95,7 @@ pub fn next_table(alloc: Global, body: &Table) -> Result<Table, NoMemory>
         → HaveVerdicts (verdict found w) body.now.rows.items
         → HaveVerdicts (verdict found (next w)) table.rows.items) }
 {
-    let table = ruled_table(alloc, &Rule::Next(body), body.rows.len())?;
-    Ok(table)
+    ruled_table(alloc, &Rule::Next(body), body.rows.len())
 }
 
 /// The formula `w`, where the part has more than one state.
@@ -109,8 +105,7 @@ pub fn if_more_table(alloc: Global, body: &Table) -> Result<Table, NoMemory>
         → HaveVerdicts (verdict found w) body.now.rows.items
         → HaveVerdicts (verdict found (if_more w)) table.rows.items) }
 {
-    let table = ruled_table(alloc, &Rule::IfMore(body), body.rows.len())?;
-    Ok(table)
+    ruled_table(alloc, &Rule::IfMore(body), body.rows.len())
 }
 
 /// The formula `w`, where the part has one state.
@@ -120,8 +115,7 @@ pub fn if_empty_table(alloc: Global, body: &Table) -> Result<Table, NoMemory>
         → HaveVerdicts (verdict found w) body.now.rows.items
         → HaveVerdicts (verdict found (if_empty w)) table.rows.items) }
 {
-    let table = ruled_table(alloc, &Rule::IfEmpty(body), body.rows.len())?;
-    Ok(table)
+    ruled_table(alloc, &Rule::IfEmpty(body), body.rows.len())
 }
 
 /// `w or v`.
@@ -133,8 +127,7 @@ pub fn or_table(alloc: Global, first: &Table, second: &Table) -> Result<Table, N
         → HaveVerdicts (verdict found v) second.now.rows.items
         → HaveVerdicts (verdict found (disjunction w v)) table.rows.items) }
 {
-    let table = ruled_table(alloc, &Rule::Either(first, second), first.rows.len())?;
-    Ok(table)
+    ruled_table(alloc, &Rule::Either(first, second), first.rows.len())
 }
 
 /// Both of two.
@@ -145,8 +138,7 @@ pub fn both_table(alloc: Global, first: &Table, second: &Table) -> Result<Table,
         → HaveVerdicts f first.now.rows.items → HaveVerdicts g second.now.rows.items
         → HaveVerdicts (λ i j. both_of (f i j) (g i j)) table.rows.items) }
 {
-    let table = ruled_table(alloc, &Rule::Both(first, second), first.rows.len())?;
-    Ok(table)
+    ruled_table(alloc, &Rule::Both(first, second), first.rows.len())
 }
 
 /// `not w`.
@@ -156,8 +148,7 @@ pub fn not_table(alloc: Global, body: &Table) -> Result<Table, NoMemory>
         → HaveVerdicts (verdict found w) body.now.rows.items
         → HaveVerdicts (verdict found (negation w)) table.rows.items) }
 {
-    let table = ruled_table(alloc, &Rule::Opposite(body), body.rows.len())?;
-    Ok(table)
+    ruled_table(alloc, &Rule::Opposite(body), body.rows.len())
 }
 
 /// `always(w)`: not on some suffix not `w`.
@@ -169,6 +160,5 @@ pub fn always_table(alloc: Global, body: &Table) -> Result<Table, NoMemory>
 {
     let without = not_table(alloc, body)?;
     let somewhere = suffix_table(alloc, &without)?;
-    let table = not_table(alloc, &somewhere)?;
-    Ok(table)
+    not_table(alloc, &somewhere)
 }

@@ -34,8 +34,7 @@ pub fn truth_verdicts(
         ≡ map (λ o. value_verdict (outcome_tree o) (truth holds)) outcomes.now) }
 {
     let value = Value::Truth(holds);
-    let verdicts = value_verdicts(alloc, outcomes, &value)?;
-    Ok(verdicts)
+    value_verdicts(alloc, outcomes, &value)
 }
 
 /// An expression as a test, which is to be true in the start.
@@ -47,8 +46,7 @@ pub fn test_table(alloc: Global, expr: &Expr, states: &[Store]) -> Result<Table,
 {
     let found = outcomes(alloc, expr, states)?;
     let verdicts = truth_verdicts(alloc, found.as_slice(), true)?;
-    let table = ruled_table(alloc, &Rule::AtStart(0, verdicts.as_slice()), states.len())?;
-    Ok(table)
+    ruled_table(alloc, &Rule::AtStart(0, verdicts.as_slice()), states.len())
 }
 
 // In each state, whether the outcome of the first, so many states ahead, is equal to that of the second.
@@ -81,8 +79,7 @@ pub fn equation_table(
         HaveVerdicts (verdict (found_in states.now)
         (equation (expr_tree first.now) (expr_tree second.now))) table.rows.items) }
 {
-    let table = next_equation_table(alloc, 0, first, second, states)?;
-    Ok(table)
+    next_equation_table(alloc, 0, first, second, states)
 }
 
 /// An equation of a later state with the start.
@@ -102,8 +99,7 @@ pub fn next_equation_table(
     let seconds = outcomes(alloc, second, states)?;
     let verdicts = equality_verdicts(alloc, firsts.as_slice(), seconds.as_slice(), ahead)?;
     let rule = Rule::AtStart(ahead as usize, verdicts.as_slice());
-    let table = ruled_table(alloc, &rule, states.len())?;
-    Ok(table)
+    ruled_table(alloc, &rule, states.len())
 }
 
 /// The length, as an expression in the start.
@@ -114,8 +110,7 @@ pub fn len_table(alloc: Global, expr: &Expr, states: &[Store]) -> Result<Table, 
         table.rows.items) }
 {
     let found = outcomes(alloc, expr, states)?;
-    let table = ruled_table(alloc, &Rule::Counted(found.as_slice()), states.len())?;
-    Ok(table)
+    ruled_table(alloc, &Rule::Counted(found.as_slice()), states.len())
 }
 
 /// An equation of the end with the start.
@@ -133,6 +128,5 @@ pub fn assign_table(
     let ends = outcomes(alloc, target, states)?;
     let starts = outcomes(alloc, source, states)?;
     let rule = Rule::Paired(ends.as_slice(), starts.as_slice());
-    let table = ruled_table(alloc, &rule, states.len())?;
-    Ok(table)
+    ruled_table(alloc, &rule, states.len())
 }

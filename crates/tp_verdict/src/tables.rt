@@ -20,8 +20,7 @@ fn empty_row(alloc: Global, n: usize) -> Result<VerdictRow, NoMemory>
     ensures width { IfOk result (λ row. width_of row ≡ words_for n) }
     ensures verdicts { IfOk result (λ row. (j : ℕ) → verdict_at row j ≡ no) }
 {
-    let row = VerdictRow::new(alloc, n / 64 + 1)?;
-    Ok(row)
+    VerdictRow::new(alloc, n / 64 + 1)
 }
 
 // The verdicts on the parts from one state on.

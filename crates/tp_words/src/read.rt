@@ -156,6 +156,5 @@ pub fn read_words(alloc: Global, words: &[Text]) -> Result<Command, WordsRefusal
     ensures size { IfOk result (λ c. HasSize c.mode) }
 {
     let texts = texts_of(alloc, words)?;
-    let command = command_of(alloc, texts.as_slice())?;
-    Ok(command)
+    command_of(alloc, texts.as_slice())
 }

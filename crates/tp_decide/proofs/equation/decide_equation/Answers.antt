@@ -35,4 +35,4 @@ returns-clause-variables c = c.equate_values.ensures.variables c.args.store.now.
 pub returns-in-Some-2-clause-variables : goal.returns-in-Some-2-clause-variables
 returns-in-Some-2-clause-variables c =
     let V : Option Decision → Type 0 = λ o. MatchOption o (Unit {0}) (λ (d : Decision). (xs : List Variable) → IsTargetOf xs c.in_ok-left-2.left.target → SetsVariables xs d) in
-    subst V c.in-Some-2.is c.in_ok-decision-2.ensures.variables c.args.store.now.variables c.in_ok-left-2.ensures.variables
+    subst V c.in-Some-2.is c.in_ok-decision.ensures.variables c.args.store.now.variables c.in_ok-left-2.ensures.variables

@@ -1,4 +1,5 @@
 use Rattle.std.proofs.Common.{◌∙◌, ap, sym}
+use Rattle.std.proofs.lemmas.Result.{IfOk-weaker}
 use Rattle.tp_kernel.specs.Read.{expr_tree, definitions_of, bindings_of}
 use Rattle.tp_eval.specs.Answers.{place_outcome_of}
 use Rattle.tp_decide.proofs.PlaceSides.{path_of_variable, place_side}
@@ -12,8 +13,8 @@ side_at-requires c =
 pub returns-in-Place-clause-outcome : goal.returns-in-Place-clause-outcome
 returns-in-Place-clause-outcome c =
     let is = ap place_outcome_of (sym c.in-Place.is) ∙ c.in_ok-path.ensures in
-    c.in_ok-side-in-Place.ensures.outcome
-    ∙ place_side c.args.store.now.facts (definitions_of c.args.defs.now) (bindings_of c.args.env.now) (expr_tree c.args.expr.now) (sym c.is_place.ensures ∙ c.if-is_place.true) _ is
+    let same = place_side c.args.store.now.facts (definitions_of c.args.defs.now) (bindings_of c.args.env.now) (expr_tree c.args.expr.now) (sym c.is_place.ensures ∙ c.if-is_place.true) _ is in
+    IfOk-weaker c.side_at.result _ _ (λ side found. found ∙ same) c.side_at.ensures.outcome
 
 pub returns-in-Other-clause-outcome : goal.returns-in-Other-clause-outcome
 returns-in-Other-clause-outcome c =

@@ -1,4 +1,5 @@
 use Rattle.std.proofs.Common.{ap, sym, ◌∙◌}
+use Rattle.std.proofs.lemmas.Result.{IfOk-weaker}
 use Rattle.tp_kernel.specs.Read.{expr_tree, bindings_of, definitions_of}
 use Rattle.tp_eval.specs.Outcome.{other, path, place_reached}
 use Rattle.tp_eval.specs.Places.{place_in}
@@ -6,10 +7,13 @@ use Rattle.tp_eval.specs.Answers.{outcome_tree, place_outcome_of}
 use Rattle.tp_eval.proofs.Answered.{place_halt_is, place_is, any_count}
 use Rattle.tp_eval.proofs.calls.place.Goals as goal
 
-pub returns-in_ok-outcome-in-Ok : goal.returns-in_ok-outcome-in-Ok
-returns-in_ok-outcome-in-Ok c =
-    place_is c.args.store.now.facts (definitions_of c.args.defs.now) (expr_tree c.args.expr.now) (bindings_of c.args.env.now) (place_outcome_of c.in_ok-outcome-in-Ok.outcome)
-    (c.in_ok-outcome-in-Ok.ensures ∙ any_count c.args.store.now.facts (place_in c.in-Ok.found) 0 c.find_place.new.calls ∙ ap (place_reached c.args.store.now.facts) (sym c.in-Ok.ensures))
+pub returns-in-Ok : goal.returns-in-Ok
+returns-in-Ok c =
+    let facts = c.args.store.now.facts in
+    let same = any_count facts (place_in c.in-Ok.found) 0 c.find_place.new.calls ∙ ap (place_reached facts) (sym c.in-Ok.ensures) in
+    IfOk-weaker c.path_or_value.result _ _
+    (λ o is. place_is facts (definitions_of c.args.defs.now) (expr_tree c.args.expr.now) (bindings_of c.args.env.now) (place_outcome_of o) (is ∙ same))
+    c.path_or_value.ensures
 
 pub returns-in_ok-other-in-Err : goal.returns-in_ok-other-in-Err
 returns-in_ok-other-in-Err c =

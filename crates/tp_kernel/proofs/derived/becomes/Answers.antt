@@ -1,4 +1,5 @@
 use Rattle.std.proofs.Common.{◌≡◌, sym, subst, ap, ap₂, ◌∙◌, [], ◌∷◌}
+use Rattle.std.proofs.lemmas.Result.{IfOk-weaker}
 use Rattle.tp_kernel.specs.Read.{expr_tree, formula_tree}
 use Rattle.tp_meaning.specs.Derived.{skip_of}
 use Rattle.tp_kernel.specs.Equations.{formula_next_eq}
@@ -11,7 +12,10 @@ pub returns-clause-formula : goal.returns-clause-formula
 returns-clause-formula c =
     let one : formula_tree c.in_ok-one.one.value ≡ skip_of = ap formula_tree c.in_ok-one.ensures.ok ∙ c.in_ok-skip.ensures.formula in
     let next : formula_tree c.in_ok-next.next.value ≡ next_equation 1 (expr_tree c.args.a.value) (expr_tree c.args.e.value) = ap formula_tree c.in_ok-next.ensures.ok ∙ formula_next_eq _ _ _ in
-    c.in_ok-step.ensures ∙ ap₂ (λ w v. conjunction (formulas_of (w ∷ v ∷ []))) one next
+    IfOk-weaker c.both.result _ _ (λ f is. is ∙ ap₂ (λ w v. conjunction (formulas_of (w ∷ v ∷ []))) one next) c.both.ensures
 
 pub returns-clause-meaning : goal.returns-clause-meaning
-returns-clause-meaning c = subst (λ (f : FormulaTree). Means f (Becomes (expr_tree c.args.a.value) (expr_tree c.args.e.value))) (sym (returns-clause-formula c)) (becomes_means (expr_tree c.args.a.value) (expr_tree c.args.e.value))
+returns-clause-meaning c =
+    IfOk-weaker c.both.result _ _
+    (λ f is. subst (λ (f : FormulaTree). Means f (Becomes (expr_tree c.args.a.value) (expr_tree c.args.e.value))) (sym is) (becomes_means (expr_tree c.args.a.value) (expr_tree c.args.e.value)))
+    (returns-clause-formula c)

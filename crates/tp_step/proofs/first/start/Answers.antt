@@ -1,4 +1,5 @@
 use Rattle.std.proofs.Common.{◌≡◌, ◌∙◌, [], map, ap}
+use Rattle.std.proofs.lemmas.Result.{IfOk-weaker}
 use Rattle.tp_kernel.specs.Read.{formula_tree, binding_of, bindings_of}
 use Rattle.tp_decide.specs.declared.phrase.Phrase.{Phrase}
 use Rattle.tp_decide.specs.ReadPhrase.{formula_of, env_of}
@@ -12,10 +13,10 @@ returns-clause-scene c =
     let main = formula_tree c.args.main.now.value in
     let same : formula_of a ≡ main = ap formula_tree c.in_ok-what.ensures.cases in
     let plain : env_of a ≡ [] = ap bindings_of c.in_ok-env.ensures.ok ∙ ap (λ bs. map binding_of bs) c.new.ensures.items in
-    c.in_ok-scene.ensures.scene ∙ ap (λ f. begins_with f (env_of a)) same ∙ ap (begins_with main) plain
+    IfOk-weaker c.start.result _ _ (λ scene is. is ∙ ap (λ f. begins_with f (env_of a)) same ∙ ap (begins_with main) plain) c.start.ensures.scene
 
 pub returns-clause-means : goal.returns-clause-means
-returns-clause-means c = begins (formula_tree c.args.main.now.value) c.in_ok-scene.scene (returns-clause-scene c)
+returns-clause-means c = IfOk-weaker c.start.result _ _ (begins (formula_tree c.args.main.now.value)) (returns-clause-scene c)
 
 pub returns-clause-sound : goal.returns-clause-sound
-returns-clause-sound c = begins_sound (formula_tree c.args.main.now.value) c.in_ok-scene.scene (returns-clause-scene c)
+returns-clause-sound c = IfOk-weaker c.start.result _ _ (begins_sound (formula_tree c.args.main.now.value)) (returns-clause-scene c)

@@ -1,4 +1,5 @@
 use Rattle.std.proofs.Common.{◌≡◌, ◌+◌, ◌-◌, ◌∷◌, [], Some, ap, sym, subst, ◌∙◌, arith, rules, map}
+use Rattle.std.proofs.lemmas.Result.{IfOk-weaker}
 use Rattle.std.proofs.lemmas.List.{map-append}
 use Rattle.tp_value.specs.Read.{tree}
 use Rattle.tp_value.specs.Tree.{num, truth}
@@ -70,16 +71,18 @@ whole_at-returns-in-Some-Truth t c =
     let step : whole c.args.deeper (facts_in_tree p.var.lasting m) p ≡ known (truth c.in-Some-Truth.b) = whole_step c.args.deeper (facts_in_tree p.var.lasting m) p _ (omega (arith, c.if-deeper-eq0.false)) kept in
     ap known (tree_truth c.in-Some-Truth.b) ∙ sym step
 
-pub whole_at-returns-in_ok-found-in-Some-Items : goal.whole_at-returns-in_ok-found-in-Some-Items
-whole_at-returns-in_ok-found-in-Some-Items t c =
+pub whole_at-returns-in-Some-Items : goal.whole_at-returns-in-Some-Items
+whole_at-returns-in-Some-Items t c =
     let m = c.args.nodes.now in
     let p = c.args.path.now in
     let kept = kept_there m p c.args.node.now c.requires.tree c.count-count.ensures.unique c.requires.way ∙ sym c.shape.ensures ∙ c.in-Some-Items.is ∙ ap Some c.in-Some-Items.field-0-is in
-    c.in_ok-found-in-Some-Items.ensures ∙ sym (whole_step c.args.deeper (facts_in_tree p.var.lasting m) p _ (omega (arith, c.if-deeper-eq0.false)) kept)
+    let same = sym (whole_step c.args.deeper (facts_in_tree p.var.lasting m) p _ (omega (arith, c.if-deeper-eq0.false)) kept) in
+    IfOk-weaker c.items_at.result _ _ (λ found is. is ∙ same) c.items_at.ensures
 
-pub whole_at-returns-in_ok-found-in-None : goal.whole_at-returns-in_ok-found-in-None
-whole_at-returns-in_ok-found-in-None t c =
+pub whole_at-returns-in-None : goal.whole_at-returns-in-None
+whole_at-returns-in-None t c =
     let m = c.args.nodes.now in
     let p = c.args.path.now in
     let kept = kept_there m p c.args.node.now c.requires.tree c.count-count.ensures.unique c.requires.way ∙ sym c.shape.ensures ∙ c.in-None.is in
-    ap whole_of c.in_ok-found-in-None.ensures ∙ sym (whole_open c.args.deeper (facts_in_tree p.var.lasting m) p kept)
+    let same = sym (whole_open c.args.deeper (facts_in_tree p.var.lasting m) p kept) in
+    IfOk-weaker c.open-in-None.result _ _ (λ found is. ap whole_of is ∙ same) c.open-in-None.ensures

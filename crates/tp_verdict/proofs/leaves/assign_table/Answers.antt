@@ -1,13 +1,14 @@
 use Rattle.std.proofs.Common.{◌∙◌, map, ap, arith}
 use Rattle.tp_eval.specs.Answers.{outcome_tree}
 use Rattle.tp_kernel.specs.Read.{expr_tree}
+use Rattle.tp_verdict.proofs.KindLemmas.{from_both}
 use Rattle.tp_verdict.proofs.LeafLemmas.{assign_kind}
 use Rattle.tp_verdict.proofs.leaves.assign_table.Goals as goal
 
 pub returns-clause-verdicts : goal.returns-clause-verdicts
 returns-clause-verdicts c =
-    let states = c.args.states.now in
-    let rows = c.in_ok-table.table.rows.items in
-    assign_kind states rows (omega (arith, c.in_ok-table.ensures.many)) (expr_tree c.args.target.now) (expr_tree c.args.source.now) c.as_slice.result.now c.as_slice-2.result.now
-    (ap (map outcome_tree) c.as_slice.ensures.value ∙ c.in_ok-ends.ensures)
-    (ap (map outcome_tree) c.as_slice-2.ensures.value ∙ c.in_ok-starts.ensures) c.in_ok-table.ensures.verdicts
+    from_both c.ruled_table.result _ _ _
+    (λ table many all. assign_kind c.args.states.now table.rows.items (omega (arith, many)) (expr_tree c.args.target.now) (expr_tree c.args.source.now) c.as_slice.result.now c.as_slice-2.result.now
+      (ap (map outcome_tree) c.as_slice.ensures.value ∙ c.in_ok-ends.ensures)
+      (ap (map outcome_tree) c.as_slice-2.ensures.value ∙ c.in_ok-starts.ensures) all)
+    c.ruled_table.ensures.many c.ruled_table.ensures.verdicts

@@ -12,4 +12,4 @@ returns-in-Some c =
     ap open_at c.in_ok-inner.ensures ∙ sym (c.open_item.ensures c.in-Some.index d c.in-Some.is) ∙ ap (λ n. whole (suc n) facts c.args.path.now) same
 
 pub returns : goal.returns
-returns c = c.in_ok-found.ensures
+returns c = c.whole_by_items.ensures

@@ -1,4 +1,5 @@
 use Rattle.std.proofs.Common.{◌≡◌, None, suc, ap, sym, ◌∙◌}
+use Rattle.std.proofs.lemmas.Result.{IfOk-weaker}
 use Rattle.std.specs.Map.{values_of}
 use Rattle.tp_store.specs.Answers.{whole_of}
 use Rattle.tp_store.specs.Facts.{kept_shape}
@@ -25,4 +26,5 @@ returns c =
           ∙ ap (shape_found (nodes_in m)) (sym w.find.ensures ∙ w.in_default.is))
       | else-path-self w ↦ kept_other b (edges_in m) (values_of m.below.entries) p (beq_other _ _ w.if-path-self.false)
     ] in
-    ap whole_of c.in_ok-first.ensures ∙ sym (whole_open (suc (deepest facts)) facts p (sym (ap (λ (k : FactsOfKind). kept_shape k.facts p) c.self.view_is) ∙ none))
+    let same = sym (whole_open (suc (deepest facts)) facts p (sym (ap (λ (k : FactsOfKind). kept_shape k.facts p) c.self.view_is) ∙ none)) in
+    IfOk-weaker c.«open».result _ _ (λ found is. ap whole_of is ∙ same) c.«open».ensures
