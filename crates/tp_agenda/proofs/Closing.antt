@@ -19,7 +19,7 @@ use Rattle.tp_step.specs.declared.ending.Ending.TheVariants.{Rest, Clash, Missin
 use Rattle.tp_step.specs.declared.answer.Tried.{Tried}
 use Rattle.tp_step.specs.declared.answer.Tried.TheVariants as tried
 use Rattle.tp_step.specs.Answers.{AreNews, Tries}
-use Rattle.tp_step.specs.Closes.{ClosureAnswers, ClosureEnds, Counts, Made, is_pick}
+use Rattle.tp_step.specs.Closes.{ClosureAnswers, ClosureEnds, Counts, LedByPicks, is_pick}
 use Rattle.tp_step.specs.EndsWith.{EndsWithItem}
 use Rattle.tp_step.proofs.Picks.{made_more}
 use Rattle.tp_step.proofs.EveryRest.{closures_commute}
@@ -203,13 +203,13 @@ still_fits ws board taken t e h =
 pub same_size : (board taken : Board) (t : ℕ) → taken ≡ without board t → length taken.ready ≡ length board.ready
 same_size board taken t e = ap (λ (b : Board). length b.ready) e ∙ length-set board.ready t false
 
-made_still : (w : Setting) (first here next : Moment) (room left left' : ℕ) (before now now' : List ℕ) → Made w first here room left before now → next ≡ here → left' ≡ left → now' ≡ now → Made w first next room left' before now'
+made_still : (w : Setting) (first here next : Moment) (room left left' : ℕ) (before now now' : List ℕ) → LedByPicks w first here room left before now → next ≡ here → left' ≡ left → now' ≡ now → LedByPicks w first next room left' before now'
 made_still w first here next room left left' before now now' h same l n =
-    subst (λ (m : Moment). Made w first m room left' before now') (sym same) (subst (λ k. Made w first here room k before now') (sym l) (subst (λ xs. Made w first here room left before xs) (sym n) h))
+    subst (λ (m : Moment). LedByPicks w first m room left' before now') (sym same) (subst (λ k. LedByPicks w first here room k before now') (sym l) (subst (λ xs. LedByPicks w first here room left before xs) (sym n) h))
 
 -- the picks that were made, also where what came of the last one isn't taken in
-pub tried_made : (w : Setting) (first here next : Moment) (t room left left' : ℕ) (before now now' : List ℕ) (o : Tried) → Made w first here room left before now
-    → Tries w left here t next o → Counts (is_pick (Some o)) t left left' now now' → Made w first next room left' before now'
+pub tried_made : (w : Setting) (first here next : Moment) (t room left left' : ℕ) (before now now' : List ℕ) (o : Tried) → LedByPicks w first here room left before now
+    → Tries w left here t next o → Counts (is_pick (Some o)) t left left' now now' → LedByPicks w first next room left' before now'
 tried_made w first here next t room left left' before now now' (tried.Reduced news) h x c = made_more w first here next room left left' before now now' t x.0 h x.2 c.0 c.1
 tried_made w first here next t room left left' before now now' (tried.Waits f o) h x c = made_still w first here next room left left' before now now' h x.0 c.0 c.1
 tried_made w first here next t room left left' before now now' tried.Rests h x c = made_still w first here next room left left' before now now' h x.0 c.0 c.1

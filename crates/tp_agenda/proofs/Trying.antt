@@ -12,7 +12,7 @@ use Rattle.tp_scene.proofs.KnownEnds.{waits_are_for_undecided}
 use Rattle.tp_step.specs.declared.tally.Wait.{Wait}
 use Rattle.tp_step.specs.declared.order.Order.{Order}
 use Rattle.tp_step.specs.declared.ending.Ending.{Ending}
-use Rattle.tp_step.specs.Closes.{Made}
+use Rattle.tp_step.specs.Closes.{LedByPicks}
 use Rattle.tp_step.proofs.Picks.{leads_more}
 use Rattle.tp_agenda.specs.Ready.{IsReady}
 use Rattle.tp_agenda.specs.Agenda.{TriesNext, TriesSoFar, no_try_yet, one_pick, one_wait, one_rest, EndsTries, FollowsAgenda}
@@ -124,7 +124,7 @@ module _ (w : Setting) (m here : Moment) (order between : Order) (room left : �
       let longer = length-append rs (t ∷ []) in
       tried_idly after ws (rs ++ t ∷ []) left' now' new' (one_rest t h.tries turn answer) (omega (arith, longer))
 
-  pub agenda_made : Made w m here room left before now
+  pub agenda_made : LedByPicks w m here room left before now
   agenda_made = record { picks = h.picks; leads = tries_lead w m order h.tries; appended = h.appended; spent = h.spent }
 
   pub agenda_waited : (kinds : List Bool) → IsSound w kinds m → WaitedForUndecided w m before now ws

@@ -17,8 +17,8 @@ other_passes test (Some c) = test c
 abbrev pub has_passing : (Cell → Bool) → Wait → Bool
 has_passing test w = test w.first || other_passes test w.other
 
--- Tests of cells: the fact decides the path; it is a place in this variable's value; it is the end of
--- this region.
+-- Tests of cells: the fact decides the path; it is a place in this variable's value; it is the end
+-- of this region.
 abbrev pub fact_decides : Fact → Cell → Bool
 fact_decides f (Part p) = decides_path f p
 fact_decides f (End region depth) = false

@@ -5,7 +5,7 @@ ghost use Rattle.tp_decide.specs.Decided.{setting_of};
 ghost use Rattle.tp_slots.specs.Kept.{IsWellKept};
 ghost use Rattle.tp_slots.specs.Read.{scene_of};
 ghost use Rattle.tp_step.specs.Answers.{moment_of};
-ghost use Rattle.tp_step.specs.Closes.{ClosureAnswers, Counts, Made, is_pick};
+ghost use Rattle.tp_step.specs.Closes.{ClosureAnswers, Counts, LedByPicks, is_pick};
 ghost use Rattle.tp_step.specs.EveryRest.{ClosureCommutes};
 ghost use Rattle.tp_step.specs.Room.{ClosureKeepsRoom};
 ghost use Rattle.tp_agenda.specs.Agenda.{FollowsAgenda, IsThrifty};
@@ -69,7 +69,7 @@ fn try_ready<L: Ledger>(
         tally.new.rests steps.old steps.new) }
     ensures err { OnErr result
         ((left : ℕ)
-        × Made (setting_of setting.now) (moment_of scene.old (contents_in store.old))
+        × LedByPicks (setting_of setting.now) (moment_of scene.old (contents_in store.old))
         (moment_of scene.new (contents_in store.new)) agenda.old.strategy.room left tally.old.picks
         tally.new.picks) }
 {
@@ -118,7 +118,7 @@ pub fn close_by_agenda<L: Ledger>(
         tally.old.picks tally.new.picks) }
     ensures err { OnErr result
         ((left : ℕ)
-        × Made (setting_of setting.now) (moment_of scene.old (contents_in store.old))
+        × LedByPicks (setting_of setting.now) (moment_of scene.old (contents_in store.old))
         (moment_of scene.new (contents_in store.new)) strategy.room left tally.old.picks
         tally.new.picks) }
     ensures order { IfOk result

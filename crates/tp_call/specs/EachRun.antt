@@ -1,5 +1,5 @@
--- What the runs of a plan have in common with the one that a call makes, whatever is picked in which
--- order: the end, and the text; and no choice of picks is a dead end.
+-- What the runs of a plan have in common with the one that a call makes, whatever is picked in
+-- which order: the end, and the text; and no choice of picks is a dead end.
 use Rattle.std.specs.Prelude.{◌≡◌, ◌⊎◌, ℕ, List, Option, Some, ◌++◌}
 use Rattle.tp_io.specs.Held.{Held}
 use Rattle.tp_show.specs.declared.turn.Picture.{Picture}

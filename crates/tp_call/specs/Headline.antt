@@ -84,8 +84,8 @@ module _ (words : List (List ℕ)) (held : Option Held) (old new : Option (List 
       × Wrote old new text)
       ⊎ WritesVerdict words held old new
 
--- A status is answered exactly where what it tells of is so: it is so, as far as the files tell; and
--- where they tell that it is so, this is answered, unless a read or a write fails or memory is
+-- A status is answered exactly where what it tells of is so: it is so, as far as the files tell;
+-- and where they tell that it is so, this is answered, unless a read or a write fails or memory is
 -- wanted.
 pub record AnsweredExactly {A : Type 0} (held : Option Held) (result : Status)
     (status : A → Status) (IsSo : A → ((Held → Type 0) → Type 0) → Type 0) : Type 0 where

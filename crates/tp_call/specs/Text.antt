@@ -127,8 +127,8 @@ pub record ReadsTracedAs (names : List (List ℕ)) (text : List ℕ) (told : Lis
   pub last : IsOneEndLine names end
   pub whole : text ≡ traced_text names states ++ end
 
--- a run of what is asked for appended a text that can be read so, and however it is so read, what it
--- tells and its last line have P
+-- a run of what is asked for appended a text that can be read so, and however it is so read, what
+-- it tells and its last line have P
 abbrev pub TracedTextTells : List (List ℕ) → Option Held → (old new : Option (List ℕ))
     → (Plan → List ToldState → List ℕ → Type 0) → Type 0
 TracedTextTells = TellsReadBy ReadsTracedAs

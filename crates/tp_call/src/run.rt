@@ -70,8 +70,8 @@ fn write_state<K: Sink>(
     requires parts { plain_parts picture.now.parts ≡ line_parts picture.now.facts }
     requires carried { CarriesDue run.now }
     ensures written { Writes (K.written out.old) (K.written out.new)
-        (written_state beside (program_of run.now) picture.now (next_moment (standing_place run.now)))
-        result }
+        (written_state beside (program_of run.now) picture.now
+        (next_moment (standing_place run.now))) result }
     ensures range { OnOk result (IsPictureInRange picture.now) }
     ensures later { K.faults out.old ≤ K.faults out.new }
     ensures cause { IsErrOf result WriteRefusal.Failed

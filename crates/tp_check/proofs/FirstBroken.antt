@@ -13,10 +13,10 @@ use Rattle.tp_check.specs.Refusals.{Placed, as_formula, outer_phrases, IsFirstBr
 use Rattle.tp_check.proofs.Known.{AreKnown, all_known, front, back}
 use Rattle.tp_check.proofs.Broken.{Told, none_there, both_told}
 use Rattle.tp_check.proofs.Refused.{formula_told}
-use Rattle.tp_check.proofs.StateBodies.{SaysOfOneState, Made, states_say, mapped_made, expr_made}
+use Rattle.tp_check.proofs.StateBodies.{SaysOfOneState, IsMade, states_say, mapped_made, expr_made}
 
 -- what is made of two things, where the second one is made whenever the first is
-with_told : {A B C : Type 0} (signatures : List Signature) (g : A → B → C) (ps : List Placed) (a : CheckOutcome A) (b : CheckOutcome B) → (Made a → Made b) → Told signatures ps a → Told signatures ps (both g a b)
+with_told : {A B C : Type 0} (signatures : List Signature) (g : A → B → C) (ps : List Placed) (a : CheckOutcome A) (b : CheckOutcome B) → (IsMade a → IsMade b) → Told signatures ps a → Told signatures ps (both g a b)
 with_told signatures g ps (Ok x) (Ok y) made told = told
 with_told signatures g ps (Ok x) (Err e) made told = absurd (made tt)
 with_told signatures g ps (Err e) b made told = told

@@ -63,31 +63,31 @@ states_say ds states are i d there is = (state i d (itself i) there, calls_state
 
 -- ---- what is made
 
-abbrev pub Made : {A : Type 0} → CheckOutcome A → Type 0
-Made (Ok x) = Unit {0}
-Made (Err e) = ⊥
+abbrev pub IsMade : {A : Type 0} → CheckOutcome A → Type 0
+IsMade (Ok x) = Unit {0}
+IsMade (Err e) = ⊥
 
-pub mapped_made : {A B : Type 0} (g : A → B) (a : CheckOutcome A) → Made a → Made (mapped g a)
+pub mapped_made : {A B : Type 0} (g : A → B) (a : CheckOutcome A) → IsMade a → IsMade (mapped g a)
 mapped_made g (Ok x) h = tt
 mapped_made g (Err e) h = h
 
-of_mapped : {A B : Type 0} (g : A → B) (a : CheckOutcome A) → Made (mapped g a) → Made a
+of_mapped : {A B : Type 0} (g : A → B) (a : CheckOutcome A) → IsMade (mapped g a) → IsMade a
 of_mapped g (Ok x) h = tt
 of_mapped g (Err e) h = h
 
-both_made : {A B C : Type 0} (g : A → B → C) (a : CheckOutcome A) (b : CheckOutcome B) → Made a → Made b → Made (both g a b)
+both_made : {A B C : Type 0} (g : A → B → C) (a : CheckOutcome A) (b : CheckOutcome B) → IsMade a → IsMade b → IsMade (both g a b)
 both_made g (Ok x) b p q = mapped_made (g x) b q
 both_made g (Err e) b p q = p
 
-of_both : {A B C : Type 0} (g : A → B → C) (a : CheckOutcome A) (b : CheckOutcome B) → Made (both g a b) → Made a × Made b
+of_both : {A B C : Type 0} (g : A → B → C) (a : CheckOutcome A) (b : CheckOutcome B) → IsMade (both g a b) → IsMade a × IsMade b
 of_both g (Ok x) b h = (tt, of_mapped (g x) b h)
 of_both g (Err e) b h = (h, absurd h)
 
-three_made : {A B C D : Type 0} (g : A → B → C → D) (a : CheckOutcome A) (b : CheckOutcome B) (c : CheckOutcome C) → Made a → Made b → Made c → Made (three g a b c)
+three_made : {A B C D : Type 0} (g : A → B → C → D) (a : CheckOutcome A) (b : CheckOutcome B) (c : CheckOutcome C) → IsMade a → IsMade b → IsMade c → IsMade (three g a b c)
 three_made g (Ok x) b c p q r = both_made (g x) b c q r
 three_made g (Err e) b c p q r = p
 
-of_three : {A B C D : Type 0} (g : A → B → C → D) (a : CheckOutcome A) (b : CheckOutcome B) (c : CheckOutcome C) → Made (three g a b c) → Made a × Made b × Made c
+of_three : {A B C D : Type 0} (g : A → B → C → D) (a : CheckOutcome A) (b : CheckOutcome B) (c : CheckOutcome C) → IsMade (three g a b c) → IsMade a × IsMade b × IsMade c
 of_three g (Ok x) b c h = let rest = of_both (g x) b c h in (tt, rest.0, rest.1)
 of_three g (Err e) b c h = (h, absurd h, absurd h)
 
@@ -112,36 +112,36 @@ state_behind (phrase at (k.next p)) e = absurd cc
 state_behind (phrase at kind) e = refl
 
 module _ (names : VisibleNames) where
-  state_of : (at : ℕ) (kind : KindTree) → Made (state_in names at kind) → Made (expr_of_kind names at kind)
+  state_of : (at : ℕ) (kind : KindTree) → IsMade (state_in names at kind) → IsMade (expr_of_kind names at kind)
   state_of at kind h = by (is_place_kind kind) h
     where
-      by : (b : Bool) → Made (if b then mapped (place_is true) (expr_of_kind names at kind) else mapped test (expr_of_kind names at kind)) → Made (expr_of_kind names at kind)
+      by : (b : Bool) → IsMade (if b then mapped (place_is true) (expr_of_kind names at kind) else mapped test (expr_of_kind names at kind)) → IsMade (expr_of_kind names at kind)
       by true h = of_mapped (place_is true) (expr_of_kind names at kind) h
       by false h = of_mapped test (expr_of_kind names at kind) h
 
   negation_of : (at : ℕ) (p : PhraseTree) (is_place is_state : Bool)
-      → Made (if is_place then mapped (place_is false) (expr_of names p) else if is_state then state_in names at (k.negation p) else not_run at) → Made (expr_of_kind names at (k.negation p))
+      → IsMade (if is_place then mapped (place_is false) (expr_of names p) else if is_state then state_in names at (k.negation p) else not_run at) → IsMade (expr_of_kind names at (k.negation p))
   negation_of at p true is_state h = mapped_made m.negation (expr_of names p) (of_mapped (place_is false) (expr_of names p) h)
   negation_of at p false true h = state_of at (k.negation p) h
   negation_of at p false false h = absurd h
 
-  or_of : (at : ℕ) (l r : PhraseTree) (are_states : Bool) → Made (if are_states then state_in names at (k.binary op.Or l r) else not_run at) → Made (expr_of_kind names at (k.binary op.Or l r))
+  or_of : (at : ℕ) (l r : PhraseTree) (are_states : Bool) → IsMade (if are_states then state_in names at (k.binary op.Or l r) else not_run at) → IsMade (expr_of_kind names at (k.binary op.Or l r))
   or_of at l r true h = state_of at (k.binary op.Or l r) h
   or_of at l r false h = absurd h
 
-  sides_of : (n j at : ℕ) (a b : CheckOutcome ExprTree) → Made (equation_of n j at a b) → Made a × Made b
+  sides_of : (n j at : ℕ) (a b : CheckOutcome ExprTree) → IsMade (equation_of n j at a b) → IsMade a × IsMade b
   sides_of zero zero at a b h = of_both _ a b h
   sides_of (suc n) zero at a b h = of_both _ a b h
   sides_of zero (suc j) at a b h = of_both _ a b h
   sides_of (suc n) (suc j) at a b h = absurd (of_both m.equation a (not_expression at) h).1
 
-  equation_of_states : (at : ℕ) (l r : PhraseTree) → is_state_phrase (λ x. true) l ≡ true → is_state_phrase (λ x. true) r ≡ true → Made (formula_of_kind names at (k.binary op.Equal l r)) → Made (expr_of_kind names at (k.binary op.Equal l r))
+  equation_of_states : (at : ℕ) (l r : PhraseTree) → is_state_phrase (λ x. true) l ≡ true → is_state_phrase (λ x. true) r ≡ true → IsMade (formula_of_kind names at (k.binary op.Equal l r)) → IsMade (expr_of_kind names at (k.binary op.Equal l r))
   equation_of_states at l r p q h =
       let sides = sides_of (nexts_of l) (nexts_of r) (at_of r) (expr_of names (behind_nexts l)) (expr_of names (behind_nexts r)) h in
-      both_made _ (expr_of names l) (expr_of names r) (subst (λ (s : PhraseTree). Made (expr_of names s)) (state_behind l p) sides.0) (subst (λ (s : PhraseTree). Made (expr_of names s)) (state_behind r q) sides.1)
+      both_made _ (expr_of names l) (expr_of names r) (subst (λ (s : PhraseTree). IsMade (expr_of names s)) (state_behind l p) sides.0) (subst (λ (s : PhraseTree). IsMade (expr_of names s)) (state_behind r q) sides.1)
 
   binary_of_states : (at : ℕ) (o : Op) (l r : PhraseTree) → is_state_operator o ≡ true → is_state_phrase (λ x. true) l ≡ true → is_state_phrase (λ x. true) r ≡ true
-      → Made (formula_of_kind names at (k.binary o l r)) → Made (expr_of_kind names at (k.binary o l r))
+      → IsMade (formula_of_kind names at (k.binary o l r)) → IsMade (expr_of_kind names at (k.binary o l r))
   binary_of_states at op.Chop l r s p q h = absurd cc
   binary_of_states at op.Proj l r s p q h = absurd cc
   binary_of_states at op.Gets l r s p q h = absurd cc
@@ -151,22 +151,22 @@ module _ (names : VisibleNames) where
   binary_of_states at op.Or l r s p q h = or_of at l r (is_state_in names l && is_state_in names r) h
   binary_of_states at o l r s p q h = state_of at (k.binary o l r) h
 
-  call_by : (at : ℕ) (c : Called) (counted is_state : Bool) → is_state ≡ true → (arguments : CheckOutcome (List ExprTree)) → Made (if counted then mapped (λ es. m.call c.number (exprs_of es)) arguments else Err (WrongCount at))
-      → Made (if counted then (if is_state then mapped (λ es. invoke c.number (exprs_of es)) arguments else not_expression at) else Err (WrongCount at))
+  call_by : (at : ℕ) (c : Called) (counted is_state : Bool) → is_state ≡ true → (arguments : CheckOutcome (List ExprTree)) → IsMade (if counted then mapped (λ es. m.call c.number (exprs_of es)) arguments else Err (WrongCount at))
+      → IsMade (if counted then (if is_state then mapped (λ es. invoke c.number (exprs_of es)) arguments else not_expression at) else Err (WrongCount at))
   call_by at c true true s arguments h = mapped_made _ arguments (of_mapped (λ es. m.call c.number (exprs_of es)) arguments h)
   call_by at c true false s arguments h = absurd cc
   call_by at c false is_state s arguments h = absurd h
 
-  call_of_states : (at : ℕ) (ps : PhraseTrees) (o : Option Called) → ((c : Called) → o ≡ Some c → c.signature.is_state ≡ true) → Made (called_formula names at o ps) → Made (called_expr at o (phrase_count ps) (λ xs. arguments_in names ps xs))
+  call_of_states : (at : ℕ) (ps : PhraseTrees) (o : Option Called) → ((c : Called) → o ≡ Some c → c.signature.is_state ≡ true) → IsMade (called_formula names at o ps) → IsMade (called_expr at o (phrase_count ps) (λ xs. arguments_in names ps xs))
   call_of_states at ps None state h = absurd h
   call_of_states at ps (Some c) state h = call_by at c (nat_eq (phrase_count ps) (length c.signature.parameters)) c.signature.is_state (state c refl) (arguments_in names ps c.signature.parameters) h
 
 mutual
   -- a phrase of one state that is made to a formula is made to an expression
-  pub expr_made : (names : VisibleNames) (p : PhraseTree) → is_state_phrase (λ x. true) p ≡ true → CallStates names.definitions (calls_in p) → Made (formula_of names p) → Made (expr_of names p)
+  pub expr_made : (names : VisibleNames) (p : PhraseTree) → is_state_phrase (λ x. true) p ≡ true → CallStates names.definitions (calls_in p) → IsMade (formula_of names p) → IsMade (expr_of names p)
   expr_made names (phrase at kind) is calls h = expr_kind_made names at kind is calls h
 
-  expr_kind_made : (names : VisibleNames) (at : ℕ) (kind : KindTree) → is_state_kind (λ x. true) kind ≡ true → CallStates names.definitions (calls_in_kind kind) → Made (formula_of_kind names at kind) → Made (expr_of_kind names at kind)
+  expr_kind_made : (names : VisibleNames) (at : ℕ) (kind : KindTree) → is_state_kind (λ x. true) kind ≡ true → CallStates names.definitions (calls_in_kind kind) → IsMade (formula_of_kind names at kind) → IsMade (expr_of_kind names at kind)
   expr_kind_made names at (k.number n) is calls h = tt
   expr_kind_made names at (k.truth b) is calls h = tt
   expr_kind_made names at (k.name x) is calls h = state_of names at (k.name x) h
@@ -194,7 +194,7 @@ mutual
   expr_kind_made names at (k.call x ps) is calls h = call_of_states names at ps (called_of names.definitions x) (λ c found. calls 0 x refl c found) h
   expr_kind_made names at kind is calls h = absurd cc
 
-  exprs_made : (names : VisibleNames) (ps : PhraseTrees) → are_state_phrases (λ x. true) ps ≡ true → CallStates names.definitions (calls_in_all ps) → Made (formulas_in names ps) → Made (exprs_in names ps)
+  exprs_made : (names : VisibleNames) (ps : PhraseTrees) → are_state_phrases (λ x. true) ps ≡ true → CallStates names.definitions (calls_in_all ps) → IsMade (formulas_in names ps) → IsMade (exprs_in names ps)
   exprs_made names no_phrase is calls h = tt
   exprs_made names (phrase_then p ps) is calls h =
       let one = is_state_phrase (λ x. true) p in

@@ -27,7 +27,7 @@ use Rattle.tp_decide.specs.declared.regions.RegionKind.TheVariants as region
 use Rattle.tp_decide.specs.declared.setting.Setting.{Setting}
 use Rattle.tp_decide.specs.NewLeaves.{leaf_list}
 use Rattle.tp_decide.specs.Read.{values_of}
-use Rattle.tp_decide.specs.ReadPhrase.{formula_of, env_of}
+use Rattle.tp_decide.specs.ReadBound.{formula_of, env_of}
 
 abbrev pub mark_of : Side → S.Side
 mark_of mark.Ending = S.Ending
@@ -72,7 +72,8 @@ with_new_region news =
     })
 
 -- the item that holds a new region of this kind
-abbrev pub holding : RegionKind → (id : ℕ) → S.Region → FormulaTree → S.Bindings → S.Entries → S.Entries
+abbrev pub holding : RegionKind → (id : ℕ) → S.Region → FormulaTree → S.Bindings → S.Entries
+    → S.Entries
 holding region.Left = S.split_then
 holding region.Outer = S.opened_then
 

@@ -61,7 +61,7 @@ AreFirst kinds variables =
 pub record FitsStore (defs : List Definition) (variables : List Variable) (f : FormulaTree)
     (env : S.Bindings) : Type 0 where
   pub kinds : List Bool
-  pub phrase : PhraseFits defs kinds variables f env
+  pub bound : PhraseFits defs kinds variables f env
   pub globals : AreFirst kinds variables
 
 -- the same of an expression

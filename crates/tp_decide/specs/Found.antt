@@ -23,7 +23,7 @@ use Rattle.tp_decide.specs.declared.sides.Target.TheVariants as target
 use Rattle.tp_decide.specs.declared.sides.EquationSide.{EquationSide}
 use Rattle.tp_decide.specs.declared.found.SharedOutcome.{SharedOutcome}
 use Rattle.tp_decide.specs.declared.found.SharedOutcome.TheVariants as shared
-use Rattle.tp_decide.specs.declared.phrase.Values.{Values}
+use Rattle.tp_decide.specs.declared.bound_formula.Values.{Values}
 use Rattle.tp_decide.specs.Read.{values_of}
 use Rattle.tp_decide.specs.Decided.{Decides}
 

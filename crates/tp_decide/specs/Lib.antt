@@ -1,5 +1,5 @@
 pub mod Read
-pub mod ReadPhrase
+pub mod ReadBound
 pub mod NewLeaves
 pub mod Decided
 pub mod Found

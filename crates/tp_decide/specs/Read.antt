@@ -2,8 +2,8 @@
 use Rattle.std.specs.Prelude.{List, map}
 use Rattle.tp_value.specs.Tree.{Tree}
 use Rattle.tp_value.specs.Read.{tree}
-use Rattle.tp_decide.specs.declared.phrase.Values.{Values}
-use Rattle.tp_decide.specs.declared.phrase.Shows.{Shows}
+use Rattle.tp_decide.specs.declared.bound_formula.Values.{Values}
+use Rattle.tp_decide.specs.declared.bound_formula.Shows.{Shows}
 
 abbrev pub values_of : Values → List Tree
 values_of vs = map tree vs.items.items

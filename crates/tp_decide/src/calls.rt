@@ -11,9 +11,9 @@ ghost use Rattle.tp_decide.specs.Decided.{Decides, IfOkDecides};
 ghost use Rattle.tp_decide.specs.Fits.{IsPlain, ArePlaces};
 ghost use Rattle.tp_decide.specs.Found.{ValueIn, BoundIn, AllBoundIn};
 
+use crate::bound_formula::BoundFormula;
 use crate::decision::{Decision, Leaf, becomes_one};
 use crate::found::{find_value, value};
-use crate::phrase::Phrase;
 use crate::setting::Setting;
 use std::alloc::Global;
 use std::rc::Rc;
@@ -162,7 +162,7 @@ fn unfold(
         Ok(bound) => {
             let what = def.formula.clone()?;
             let env = Rc::new(alloc, bound)?;
-            Ok(becomes_one(Leaf::Do(Phrase { what, env })))
+            Ok(becomes_one(Leaf::Do(BoundFormula { what, env })))
         }
         Err(decision) => Ok(decision),
     }

@@ -8,12 +8,12 @@ ghost use Rattle.tp_scene.specs.Step as row;
 ghost use Rattle.tp_decide.specs.Decided.{IfOkDecides, plain_place};
 ghost use Rattle.tp_decide.specs.Fits.{IsPlain};
 ghost use Rattle.tp_decide.specs.Found.{counted_from};
-ghost use Rattle.tp_decide.specs.ReadPhrase.{formula_of, env_of};
+ghost use Rattle.tp_decide.specs.ReadBound.{formula_of, env_of};
 
+use crate::bound_formula::BoundFormula;
 use crate::decision::{Decision, Leaf, Place, becomes_one, becomes_two, due, nothing};
 use crate::env::{bind_number, under};
 use crate::found::number;
-use crate::phrase::Phrase;
 use crate::regions::{RegionKind, divide};
 use std::alloc::Global;
 use std::rc::Rc;
@@ -29,14 +29,14 @@ pub enum CountKind {
 }
 
 // The body, with the number bound last.
-fn counted(alloc: Global, n: Number, body: &Phrase) -> Result<Phrase, NoMemory>
+fn counted(alloc: Global, n: Number, body: &BoundFormula) -> Result<BoundFormula, NoMemory>
     ensures formula { IfOk result (λ a. formula_of a ≡ formula_of body.now) }
     ensures bindings { IfOk result (λ a.
         env_of a ≡ env_of body.now ++ known_binding (num n) ∷ []) }
 {
     let env = bind_number(alloc, &body.env, n)?;
     let what = body.what.clone()?;
-    Ok(Phrase { what, env })
+    Ok(BoundFormula { what, env })
 }
 
 // The formula that counts so, from the number after k on.
@@ -81,7 +81,7 @@ pub fn decide_turns(
     name: &Text,
     k: Number,
     found: Outcome,
-    body: &Phrase,
+    body: &BoundFormula,
     place: Place,
 ) -> Result<Decision, NoMemory>
     ensures outcome { IfOkDecides result (λ n.
@@ -110,7 +110,7 @@ pub fn decide_instances(
     name: &Text,
     k: Number,
     found: Outcome,
-    body: &Phrase,
+    body: &BoundFormula,
 ) -> Result<Decision, NoMemory>
     ensures outcome { IfOkDecides result (λ n.
         row.with_number (outcome_tree found) (λ m.

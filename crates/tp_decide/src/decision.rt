@@ -7,9 +7,9 @@ ghost use Rattle.tp_decide.specs.Decided.{Decides, plain_leaf, news_entries, pla
 ghost use Rattle.tp_decide.specs.NewLeaves.{leaf_list};
 ghost use Rattle.tp_decide.specs.Fits.{IsPlain};
 
+use crate::bound_formula::{BoundFormula, Values};
 use crate::env::under;
 use crate::leaves::Leaves;
-use crate::phrase::{Phrase, Values};
 use std::rc::Rc;
 use tp_kernel::{Env, Formula, LimitKind};
 use tp_scene::{Cell, Clash};
@@ -35,8 +35,8 @@ pub struct Place {
 /// An item without a region: a formula that is to hold from this state on, or from the next one; values that are shown.
 #[derive(Drop)]
 pub enum Leaf {
-    Do(Phrase),
-    Later(Phrase),
+    Do(BoundFormula),
+    Later(BoundFormula),
     Shown(Values),
 }
 
@@ -55,17 +55,17 @@ pub enum Decision {
         mark: Option<Side>,
     },
     Splits {
-        first: Phrase,
-        after: Phrase,
+        first: BoundFormula,
+        after: BoundFormula,
     },
     Opens {
-        outer: Phrase,
-        piece: Phrase,
+        outer: BoundFormula,
+        piece: BoundFormula,
     },
     Binds {
         name: Text,
         lasting: bool,
-        body: Phrase,
+        body: BoundFormula,
     },
     Sets(Path, Operand),
     Measures(Path, u32),
@@ -103,8 +103,8 @@ pub fn due(what: Rc<Formula>, env: &Rc<Env>) -> Result<Leaf, NoMemory>
     ensures { IfOk result (λ l.
         plain_leaf l ≡ S.Do (formula_tree what.value) (bindings_of env.now.value)) }
 {
-    let phrase = under(what, env)?;
-    Ok(Leaf::Do(phrase))
+    let bound = under(what, env)?;
+    Ok(Leaf::Do(bound))
 }
 
 /// The formula from the next state on.
@@ -112,13 +112,14 @@ pub fn later(what: Rc<Formula>, env: &Rc<Env>) -> Result<Leaf, NoMemory>
     ensures { IfOk result (λ l.
         plain_leaf l ≡ S.Later (formula_tree what.value) (bindings_of env.now.value)) }
 {
-    let phrase = under(what, env)?;
-    Ok(Leaf::Later(phrase))
+    let bound = under(what, env)?;
+    Ok(Leaf::Later(bound))
 }
 
 /// One item stands in its place.
 pub fn becomes_one(leaf: Leaf) -> Decision
-    ensures outcome { Decides result (λ n. row.becomes (S.leaf (n.item 0) (plain_leaf leaf) S.none) 1) }
+    ensures outcome { Decides result (λ n.
+        row.becomes (S.leaf (n.item 0) (plain_leaf leaf) S.none) 1) }
     ensures plain { IsPlain result }
 {
     becomes(Leaves::One(leaf))

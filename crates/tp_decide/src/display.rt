@@ -7,9 +7,9 @@ ghost use Rattle.tp_decide.specs.Decided.{IfOkDecides};
 ghost use Rattle.tp_decide.specs.Fits.{IsPlain};
 ghost use Rattle.tp_decide.specs.Found.{ValuesIn};
 
+use crate::bound_formula::Values;
 use crate::decision::{Decision, Leaf, becomes_one};
 use crate::found::find_value;
-use crate::phrase::Values;
 use crate::setting::Setting;
 use std::alloc::Global;
 use tp_kernel::{Env, Exprs};

@@ -3,25 +3,25 @@ ghost use Rattle.std.specs.Prelude.{◌≡◌, ◌++◌, ◌∷◌, [], map, IfO
 ghost use Rattle.tp_value.specs.Tree.{num};
 ghost use Rattle.tp_meaning.specs.Syntax.{known_binding};
 ghost use Rattle.tp_kernel.specs.Read.{formula_tree, binding_of, bindings_of};
-ghost use Rattle.tp_decide.specs.ReadPhrase.{formula_of, env_of};
+ghost use Rattle.tp_decide.specs.ReadBound.{formula_of, env_of};
 
-use crate::phrase::Phrase;
+use crate::bound_formula::BoundFormula;
 use std::alloc::Global;
 use std::rc::Rc;
 use tp_kernel::{Binding, Env, Formula};
 use tp_value::{NoMemory, Number, Value};
 
 /// The formula under the same bindings, which are shared.
-pub fn under(what: Rc<Formula>, env: &Rc<Env>) -> Result<Phrase, NoMemory>
+pub fn under(what: Rc<Formula>, env: &Rc<Env>) -> Result<BoundFormula, NoMemory>
     ensures formula { IfOk result (λ a. formula_of a ≡ formula_tree what.value) }
     ensures bindings { IfOk result (λ a. env_of a ≡ bindings_of env.now.value) }
 {
     let env = env.clone()?;
-    Ok(Phrase { what, env })
+    Ok(BoundFormula { what, env })
 }
 
 /// The same of a formula that is shared as well.
-pub fn shared_under(what: &Rc<Formula>, env: &Rc<Env>) -> Result<Phrase, NoMemory>
+pub fn shared_under(what: &Rc<Formula>, env: &Rc<Env>) -> Result<BoundFormula, NoMemory>
     ensures formula { IfOk result (λ a. formula_of a ≡ formula_tree what.now.value) }
     ensures bindings { IfOk result (λ a. env_of a ≡ bindings_of env.now.value) }
 {

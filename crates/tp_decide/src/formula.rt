@@ -2,12 +2,13 @@
 ghost use Rattle.std.specs.Prelude.{◌≡◌, IfOk, ◌∷◌, []};
 ghost use Rattle.tp_kernel.specs.Read.{definitions_of, expr_tree, formula_tree, formula_trees, bindings_of};
 ghost use Rattle.tp_scene.specs.Step as row;
-ghost use Rattle.tp_decide.specs.ReadPhrase.{formula_of, env_of};
+ghost use Rattle.tp_decide.specs.ReadBound.{formula_of, env_of};
 ghost use Rattle.tp_decide.specs.Decided.{IfOkDecides, becomes_due, decided_outcome, plain_place, setting_of};
 ghost use Rattle.tp_decide.specs.Fits.{SetsVariables, FitsStore, IsPlain};
 ghost use Rattle.tp_scene.specs.Scene as S;
 ghost use Rattle.tp_meaning.specs.Syntax.{always, branch, chop, conjunction, empty, formulas_of, more, weak_next};
 
+use crate::bound_formula::BoundFormula;
 use crate::calls::decide_call;
 use crate::counting::{decide_instances, decide_turns};
 use crate::decision::{
@@ -21,7 +22,6 @@ use crate::evaluated::{
 };
 use crate::found::eval_shared;
 use crate::leaves::Leaves;
-use crate::phrase::Phrase;
 use crate::regions::{RegionKind, decide_exists, decide_region};
 use crate::setting::Setting;
 use std::alloc::Global;
@@ -187,23 +187,23 @@ pub fn decide_while(
 /// What picking an item with this formula gives, in a region of that place.
 pub fn decide(
     alloc: Global,
-    phrase: &Phrase,
+    bound: &BoundFormula,
     place: Place,
     store: &Store,
     setting: &Setting,
 ) -> Result<Decision, NoMemory>
     requires fits { FitsStore (definitions_of setting.now.defs.now) store.now.variables
-        (formula_of phrase.now) (env_of phrase.now) }
+        (formula_of bound.now) (env_of bound.now) }
     ensures outcome { let w = setting_of setting.now in
         IfOk result (λ d.
         (n : row.Numbers)
         → decided_outcome store.now.facts n d
-        ≡ row.formula_step w.defs w.inputs w.state store.now.facts (formula_of phrase.now)
-        (env_of phrase.now) (plain_place place) n) }
+        ≡ row.formula_step w.defs w.inputs w.state store.now.facts (formula_of bound.now)
+        (env_of bound.now) (plain_place place) n) }
     ensures variables { IfOk result (SetsVariables store.now.variables) }
 {
-    let env = &phrase.env;
-    match &*phrase.what {
+    let env = &bound.env;
+    match &*bound.what {
         Formula::True => Ok(nothing()),
         Formula::Test(e) => {
             let found = eval(alloc, e, env, store, setting.defs)?;
@@ -220,7 +220,7 @@ pub fn decide(
         Formula::WeakNext(w) => decide_weak_next(w, env, place),
         Formula::IfMore(w) => decide_if_more(w, env, place),
         Formula::IfEmpty(w) => decide_if_empty(w, env, place),
-        Formula::Always(w) => decide_always(alloc, &phrase.what, w, env),
+        Formula::Always(w) => decide_always(alloc, &bound.what, w, env),
         Formula::And(operands) => decide_and(alloc, operands, env),
         Formula::If(b, yes, no) => {
             let found = eval(alloc, b, env, store, setting.defs)?;
@@ -235,7 +235,7 @@ pub fn decide(
             decide_assign(alloc, t, found, env)
         }
         Formula::Chop(w, v) => decide_region(RegionKind::Left, w, v, env, place),
-        Formula::While(b, w) => decide_while(alloc, &phrase.what, b, w, env),
+        Formula::While(b, w) => decide_while(alloc, &bound.what, b, w, env),
         Formula::For {
             name,
             from,

@@ -2,6 +2,7 @@
 //! yet, for scenes that are kept as slots. Nothing is changed here: what is decided is carried out above.
 #![tactic(auto)]
 
+mod bound_formula;
 mod calls;
 mod counting;
 mod decision;
@@ -13,16 +14,15 @@ mod formula;
 mod found;
 mod holder;
 mod leaves;
-mod phrase;
 mod regions;
 mod setting;
 mod sharing;
 mod sides;
 
+pub use bound_formula::{BoundFormula, Shows, Values};
 pub use decision::{Decision, Leaf, Place, Side};
 pub use env::bind_last;
 pub use formula::decide;
 pub use holder::{HolderDecision, HolderKind, decide_holder};
 pub use leaves::Leaves;
-pub use phrase::{Phrase, Shows, Values};
 pub use setting::Setting;

@@ -6,11 +6,11 @@ ghost use Rattle.tp_scene.specs.Scene as S;
 ghost use Rattle.tp_scene.specs.Step as row;
 ghost use Rattle.tp_decide.specs.Decided.{Decides, IfOkDecides, holding};
 ghost use Rattle.tp_decide.specs.Fits.{IsPlain};
-ghost use Rattle.tp_decide.specs.ReadPhrase.{formula_of, env_of};
+ghost use Rattle.tp_decide.specs.ReadBound.{formula_of, env_of};
 
+use crate::bound_formula::BoundFormula;
 use crate::decision::{Decision, Place};
 use crate::env::shared_under;
-use crate::phrase::Phrase;
 use std::rc::Rc;
 use tp_kernel::{Env, Formula, LimitKind};
 use tp_value::{NoMemory, Text};
@@ -25,8 +25,13 @@ pub enum RegionKind {
     Outer,
 }
 
-/// A new region with the first phrase, and the second beside it, unless it is too deep.
-pub fn divide(place: Place, kind: RegionKind, inside: Phrase, beside: Phrase) -> Decision
+/// A new region with the first formula, and the second beside it, unless it is too deep.
+pub fn divide(
+    place: Place,
+    kind: RegionKind,
+    inside: BoundFormula,
+    beside: BoundFormula,
+) -> Decision
     ensures outcome { Decides result (λ n.
         row.with_region place.depth
         (holding kind (n.item 1)
@@ -85,7 +90,8 @@ pub fn decide_exists(
         (record {
           news = S.leaf (n.item 0) (S.Do (formula_tree body.now.value)
               (bindings_of env.now.value
-              ++ place_binding (record { var = record { number = n.local; lasting = lasting }; at = [] })
+              ++ place_binding
+              (record { var = record { number = n.local; lasting = lasting }; at = [] })
               ∷ [])) S.none;
           items = 1;
           regions = 0;

@@ -7,8 +7,8 @@ use Rattle.std.proofs.lemmas.Option.{same_Some}
 use Rattle.tp_value.specs.Tree.{Tree}
 use Rattle.tp_meaning.specs.Inputs.{InputRow, InputTable, row_value, port_of, range_value, default_value}
 use Rattle.tp_inputs.specs.declared.span.Span.{Span}
-use Rattle.tp_inputs.specs.declared.span.Head.{Head}
-use Rattle.tp_inputs.specs.declared.span.Head.TheVariants.{Speaks, Silent, Unheard}
+use Rattle.tp_inputs.specs.declared.span.LineHead.{LineHead}
+use Rattle.tp_inputs.specs.declared.span.LineHead.TheVariants.{Speaks, Silent, Unheard}
 use Rattle.tp_inputs.specs.Spans.{are_rows, IsCanonical, span_has, is_others, GivesValue, head_of}
 use Rattle.tp_inputs.specs.Table.{BeginsPair, PassesPart, blank, given, ReadsPairs, here, passes, IsLine, AreLines}
 use Rattle.tp_inputs.proofs.HeadLemmas.{HeadHas}
@@ -53,7 +53,7 @@ module _ (InRange : List ℕ → ℕ → Tree → Type 0) (AsDefault : List ℕ 
     pairs_have span z table _ _ known here has = has
     pairs_have span z table rest all known (passes {n = n} {more = more} is r) has = pairs_have span (drop n z) more rest all known r (part_has span z table more n known is has)
 
-    line_has : (head : Head) (line : List ℕ) (table more : InputTable) → HeadHas Known head → IsLine head line table more → Has table → Has more
+    line_has : (head : LineHead) (line : List ℕ) (table more : InputTable) → HeadHas Known head → IsLine head line table more → Has table → Has more
     line_has (Speaks span n) line table more known is has = pairs_have span (drop n line) table [] more known is has
     line_has Silent line table more known is has = subst Has (sym is) has
     line_has Unheard line table more known is has = absurd is

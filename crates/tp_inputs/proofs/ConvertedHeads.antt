@@ -17,7 +17,7 @@ use Rattle.tp_value.proofs.TextSpelled.{decimal_written}
 use Rattle.tp_lex.proofs.FeedLemmas.{feed, more_parts}
 use Rattle.tp_inputs.specs.declared.span.Span.{Span}
 use Rattle.tp_inputs.specs.declared.span.Span.TheVariants.{States, Others}
-use Rattle.tp_inputs.specs.declared.span.Head.TheVariants.{Speaks}
+use Rattle.tp_inputs.specs.declared.span.LineHead.TheVariants.{Speaks}
 use Rattle.tp_inputs.specs.Spans.{last_state, named_state, between, end_of, cut_range, range_of, is_range_byte, range_head, colon_head, ranged_head}
 use Rattle.tp_inputs.specs.Converted.{range_text, with_feed}
 

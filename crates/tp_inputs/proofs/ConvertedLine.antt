@@ -18,7 +18,7 @@ use Rattle.tp_lex.specs.Bytes.{is_name_byte, name_limit}
 use Rattle.tp_lex.specs.Pieces.{IsNoWord}
 use Rattle.tp_meaning.specs.Inputs.{InputTable}
 use Rattle.tp_inputs.specs.declared.span.Span.{Span}
-use Rattle.tp_inputs.specs.declared.span.Head.{Head}
+use Rattle.tp_inputs.specs.declared.span.LineHead.{LineHead}
 use Rattle.tp_inputs.specs.Spans.{ranged_head, is_given, GivesValue}
 use Rattle.tp_inputs.specs.Table.{BeginsPort, is_set_apart, BeginsPair, pair, blank, given, ReadsPairs, here, passes, IsLine}
 use Rattle.tp_inputs.specs.Converted.{valued_text}
@@ -114,7 +114,7 @@ module _ (port : List ℕ) (v : Tree) (named : IsPortName port) (within : IsWith
       → IsLine (ranged_head (range ++ valued_text port v)) (range ++ valued_text port v) table more
   unfolding text
   line_made range span table more is new g =
-      subst (λ (h : Head). IsLine h (range ++ valued_text port v) table more) (sym (head_made range (32 ∷ text) span is))
+      subst (λ (h : LineHead). IsLine h (range ++ valued_text port v) table more) (sym (head_made range (32 ∷ text) span is))
       (subst (λ (z : List ℕ). ReadsPairs span z table [] more) (sym (drop-append-add range (58 ∷ 32 ∷ text) 1)) (pairs_read span table more new g))
 
 -- ---- no control characters

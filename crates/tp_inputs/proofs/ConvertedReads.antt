@@ -9,8 +9,8 @@ use Rattle.tp_value.specs.Limits.{IsWithinLimits}
 use Rattle.tp_meaning.specs.Inputs.{InputRow, InputPort, InputTable}
 use Rattle.tp_inputs.specs.declared.span.Span.{Span}
 use Rattle.tp_inputs.specs.declared.span.Span.TheVariants.{States, Others}
-use Rattle.tp_inputs.specs.declared.span.Head.{Head}
-use Rattle.tp_inputs.specs.declared.span.Head.TheVariants.{Speaks, Silent, Unheard}
+use Rattle.tp_inputs.specs.declared.span.LineHead.{LineHead}
+use Rattle.tp_inputs.specs.declared.span.LineHead.TheVariants.{Speaks, Silent, Unheard}
 use Rattle.tp_inputs.specs.Spans.{are_rows, are_ports, IsCanonical, last_state, has_ranges, head_of, ranged_head}
 use Rattle.tp_inputs.specs.Table.{BeginsPair, pair, IsLine, AreLines, IsInputsText}
 use Rattle.tp_inputs.specs.Converted.{range_text, row_line, row_lines, default_lines, converted_lines, converted, EndsWithin}
@@ -64,7 +64,7 @@ pair_may : (span : Span) (table : InputTable) (z port : List ℕ) (value : Tree)
 pair_may span table z _ value n known (pair {n = m} is new read apart) =
     record { range = λ k e. (port_named z m is, read.limits); default = λ e. (port_named z m is, read.limits) }
 
-any_head : (head : Head) → HeadHas (λ (span : Span). Unit {0}) head
+any_head : (head : LineHead) → HeadHas (λ (span : Span). Unit {0}) head
 any_head (Speaks span n) = tt
 any_head Silent = tt
 any_head Unheard = tt

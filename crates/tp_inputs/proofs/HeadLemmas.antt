@@ -6,8 +6,8 @@ use Rattle.std.proofs.lemmas.Bool.{leb-true}
 use Rattle.tp_value.specs.Spelling.{is_value_blank}
 use Rattle.tp_inputs.specs.declared.span.Span.{Span}
 use Rattle.tp_inputs.specs.declared.span.Span.TheVariants.{States, Others}
-use Rattle.tp_inputs.specs.declared.span.Head.{Head}
-use Rattle.tp_inputs.specs.declared.span.Head.TheVariants.{Speaks, Silent, Unheard}
+use Rattle.tp_inputs.specs.declared.span.LineHead.{LineHead}
+use Rattle.tp_inputs.specs.declared.span.LineHead.TheVariants.{Speaks, Silent, Unheard}
 use Rattle.tp_inputs.specs.Spans.{named_state, between, end_of, cut_range, range_of, is_range_byte, range_head, colon_head, ranged_head, head_of}
 
 module _ (P : Span → Type 0) where
@@ -15,7 +15,7 @@ module _ (P : Span → Type 0) where
   RangeHas None = Unit {0}
   RangeHas (Some span) = P span
 
-  abbrev pub HeadHas : Head → Type 0
+  abbrev pub HeadHas : LineHead → Type 0
   HeadHas (Speaks span n) = P span
   HeadHas Silent = Unit {0}
   HeadHas Unheard = Unit {0}
@@ -24,11 +24,11 @@ module _ (P : Span → Type 0) where
   at_has None n is = tt
   at_has (Some span) n is = is
 
-  test_has : (t : Bool) (h : Head) → HeadHas h → HeadHas (cond t h Unheard)
+  test_has : (t : Bool) (h : LineHead) → HeadHas h → HeadHas (cond t h Unheard)
   test_has true h is = is
   test_has false h is = tt
 
-  blank_has : (t : Bool) (h : Head) → HeadHas h → HeadHas (cond t Silent h)
+  blank_has : (t : Bool) (h : LineHead) → HeadHas h → HeadHas (cond t Silent h)
   blank_has true h is = tt
   blank_has false h is = is
 

@@ -5,10 +5,10 @@ use Rattle.tp_value.specs.Tree.{Tree}
 use Rattle.tp_meaning.specs.Inputs.{InputTable}
 use Rattle.tp_inputs.specs.declared.fault.Fault.{Fault}
 use Rattle.tp_inputs.specs.declared.span.Span.{Span}
-use Rattle.tp_inputs.specs.declared.span.Head.{Head}
-use Rattle.tp_inputs.specs.declared.span.Head.TheVariants.{Speaks, Silent, Unheard}
+use Rattle.tp_inputs.specs.declared.span.LineHead.{LineHead}
+use Rattle.tp_inputs.specs.declared.span.LineHead.TheVariants.{Speaks, Silent, Unheard}
 use Rattle.tp_inputs.specs.Spans.{IsCanonical, GivesValue, has_ranges, head_of}
-use Rattle.tp_inputs.specs.FirstPart.{LinePart, Blank, Given, Faulty, BeginsPart, first_part}
+use Rattle.tp_inputs.specs.FirstPart.{InputPart, Blank, Given, Faulty, BeginsPart, first_part}
 use Rattle.tp_inputs.specs.Table.{PassesPart, blank, given, ReadsPairs, here, passes, IsLine, BeginsFault, HasFault, AreLines, IsFirstFault}
 use Rattle.tp_inputs.specs.Laws.{EachTextIsJudged, OneTable, OneFirstFault, NoFaultyTable, RefusedValuesHaveTheirCause}
 use Rattle.tp_value.proofs.ReadLemmas.{never_memory, refused_right}
@@ -20,7 +20,7 @@ use Rattle.tp_inputs.proofs.Existence.{some_given}
 
 -- ---- a line has one reading
 
-some_bytes : (p : LinePart) (most : ℕ) → Takes p most → 0 < most
+some_bytes : (p : InputPart) (most : ℕ) → Takes p most → 0 < most
 some_bytes Blank most t = omega arith
 some_bytes (Given port v n) most t = let low = t.0 in let high = t.1 in omega arith
 some_bytes (Faulty fault) most t = t
@@ -31,10 +31,10 @@ data LineEnding : Type 0 where
   Fails : Fault → LineEnding
 
 module _ (span : Span) where
-  one_part : (table : InputTable) (z : List ℕ) (p q : LinePart) → BeginsPart span table z p → BeginsPart span table z q → p ≡ q
+  one_part : (table : InputTable) (z : List ℕ) (p q : InputPart) → BeginsPart span table z p → BeginsPart span table z q → p ≡ q
   one_part table z p q a b = part_one span table z p a ∙ sym (part_one span table z q b)
 
-  nothing_stands : (table : InputTable) (z : List ℕ) (p : LinePart) → z ≡ [] → BeginsPart span table z p → ⊥
+  nothing_stands : (table : InputTable) (z : List ℕ) (p : InputPart) → z ≡ [] → BeginsPart span table z p → ⊥
   nothing_stands table z p e is = let some = some_bytes p (length z) (takes span table z p is) in let none = ap length e in omega arith
 
   nothing_passes : (z : List ℕ) (table more : InputTable) (n : ℕ) → z ≡ [] → PassesPart span z table more n → ⊥
@@ -96,7 +96,7 @@ module _ (span : Span) where
   Below z = (n : ℕ) (more : InputTable) → IsCanonical more → 0 < n → n ≤ length z → Read (drop n z) more
 
   module _ (ordered : IsOrdered span) where
-    read_on : (z : List ℕ) (table : InputTable) (p : LinePart) → IsCanonical table → BeginsPart span table z p → Takes p (length z) → Below z → Read z table
+    read_on : (z : List ℕ) (table : InputTable) (p : InputPart) → IsCanonical table → BeginsPart span table z p → Takes p (length z) → Below z → Read z table
     read_on z table Blank c is t below = let later = below 1 table c (omega arith) t in (later.0, later.1, later.2, passes (blank is) later.3, later.4)
     read_on z table (Given port v n) c is t below =
         let added = some_given span port v table ordered c (new_port span table z port v n is) in
@@ -116,38 +116,38 @@ module _ (span : Span) where
 
 -- ---- a line with its head
 
-one_line : (h : Head) (line : List ℕ) (table t u : InputTable) → IsLine h line table t → IsLine h line table u → t ≡ u
+one_line : (h : LineHead) (line : List ℕ) (table t u : InputTable) → IsLine h line table t → IsLine h line table u → t ≡ u
 one_line (Speaks span n) line table t u a b = (one_reading span (drop n line) table [] [] t u Whole Whole a refl b refl).0
 one_line Silent line table t u a b = a ∙ sym b
 one_line Unheard line table t u a b = absurd a
 
-one_fault : (h : Head) (line : List ℕ) (table : InputTable) (e f : Fault) → HasFault h line table e → HasFault h line table f → e ≡ f
+one_fault : (h : LineHead) (line : List ℕ) (table : InputTable) (e f : Fault) → HasFault h line table e → HasFault h line table f → e ≡ f
 one_fault (Speaks span n) line table e f a b =
     let same : Fails e ≡ Fails f = (one_reading span (drop n line) table a.rest b.rest a.more b.more (Fails e) (Fails f) a.reads a.faulty b.reads b.faulty).1 in
     cc
 one_fault Silent line table e f a b = absurd a
 one_fault Unheard line table e f a b = a ∙ sym b
 
-no_faulty_line : (h : Head) (line : List ℕ) (table t : InputTable) (f : Fault) → IsLine h line table t → HasFault h line table f → ⊥
+no_faulty_line : (h : LineHead) (line : List ℕ) (table t : InputTable) (f : Fault) → IsLine h line table t → HasFault h line table f → ⊥
 no_faulty_line (Speaks span n) line table t f a b =
     let same : Whole ≡ Fails f = (one_reading span (drop n line) table [] b.rest t b.more Whole (Fails f) a refl b.reads b.faulty).1 in
     absurd cc
 no_faulty_line Silent line table t f a b = b
 no_faulty_line Unheard line table t f a b = a
 
-line_canonical : (h : Head) (line : List ℕ) (table t : InputTable) → IsLine h line table t → IsCanonical table → IsCanonical t
+line_canonical : (h : LineHead) (line : List ℕ) (table t : InputTable) → IsLine h line table t → IsCanonical table → IsCanonical t
 line_canonical (Speaks span n) line table t a c = reads_canonical span (drop n line) table [] t a c
 line_canonical Silent line table t a c = subst IsCanonical (sym a) c
 line_canonical Unheard line table t a c = absurd a
 
-abbrev Judged : Head → List ℕ → InputTable → Type 0
+abbrev Judged : LineHead → List ℕ → InputTable → Type 0
 Judged h line table = ((more : InputTable) × IsLine h line table more) ⊎ ((f : Fault) × HasFault h line table f)
 
 judged_pairs : (span : Span) (n : ℕ) (line : List ℕ) (table : InputTable) → Read span (drop n line) table → Judged (Speaks span n) line table
 judged_pairs span n line table (rest, all, Whole, reads, e) = inl (all, subst (λ (z : List ℕ). ReadsPairs span (drop n line) table z all) e reads)
 judged_pairs span n line table (rest, all, Fails f, reads, has) = inr (f, record { rest = rest; more = all; reads = reads; faulty = has })
 
-judged : (h : Head) (line : List ℕ) (table : InputTable) → HeadHas IsOrdered h → IsCanonical table → Judged h line table
+judged : (h : LineHead) (line : List ℕ) (table : InputTable) → HeadHas IsOrdered h → IsCanonical table → Judged h line table
 judged (Speaks span n) line table ordered c = judged_pairs span n line table (some_reading span ordered (length (drop n line)) (drop n line) table c (omega arith))
 judged Silent line table ordered c = inl (table, refl)
 judged Unheard line table ordered c = inr (_, refl)

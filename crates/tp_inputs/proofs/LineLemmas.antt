@@ -7,7 +7,7 @@ use Rattle.tp_inputs.specs.declared.refusal.LineRefusal.TheVariants as l
 use Rattle.tp_inputs.specs.declared.span.Span.{Span}
 use Rattle.tp_inputs.specs.Spans.{are_ports, is_given}
 use Rattle.tp_inputs.specs.Table.{pair, PassesPart, blank, given, ReadsPairs, here, passes}
-use Rattle.tp_inputs.specs.FirstPart.{LinePart, Blank, Given, BeginsPart, first_part}
+use Rattle.tp_inputs.specs.FirstPart.{InputPart, Blank, Given, BeginsPart, first_part}
 use Rattle.tp_inputs.specs.Read.{IsPartRefusal, IsPairsRefusal}
 use Rattle.tp_inputs.proofs.PartLemmas.{part_is, takes}
 
@@ -16,7 +16,7 @@ abbrev pub Continues : Span → List ℕ → InputTable → List ℕ → InputTa
 Continues span text first rest table = (more : List ℕ) (all : InputTable) → ReadsPairs span rest table more all → ReadsPairs span text first more all
 
 -- the part that stands first
-pub part_found : (span : Span) (table : InputTable) (z : List ℕ) (p : LinePart) → z ≢ [] → p ≡ first_part span table z → BeginsPart span table z p
+pub part_found : (span : Span) (table : InputTable) (z : List ℕ) (p : InputPart) → z ≢ [] → p ≡ first_part span table z → BeginsPart span table z p
 part_found span table z p some e = subst (BeginsPart span table z) (sym e) (part_is span table z some)
 
 -- the port of a pair has no value before

@@ -18,7 +18,7 @@ use Rattle.tp_inputs.specs.declared.part.FoundPart.{FoundPart}
 use Rattle.tp_inputs.specs.declared.span.Span.{Span}
 use Rattle.tp_inputs.specs.Spans.{is_given}
 use Rattle.tp_inputs.specs.Table.{BeginsPort, IsNewPort, is_set_apart, pair, no_port, twice, no_value, not_apart}
-use Rattle.tp_inputs.specs.FirstPart.{LinePart, Blank, Given, Faulty, BeginsPart, port_len, value_part, asked_part, port_part, pair_of_len, pair_part, first_part}
+use Rattle.tp_inputs.specs.FirstPart.{InputPart, Blank, Given, Faulty, BeginsPart, port_len, value_part, asked_part, port_part, pair_of_len, pair_part, first_part}
 
 -- what `port_len` found
 abbrev FindsPort : List ℕ → Option ℕ → Type 0
@@ -115,7 +115,7 @@ module _ (span : Span) (table : InputTable) where
   unfolding first_part pair_part
   no_port_part z e never = rw e (ap (pair_of_len span table z) (port_none z never))
 
-  pub part_one : (z : List ℕ) (p : LinePart) → BeginsPart span table z p → p ≡ first_part span table z
+  pub part_one : (z : List ℕ) (p : InputPart) → BeginsPart span table z p → p ≡ first_part span table z
   part_one z Blank e = sym (blank_part z e)
   part_one z (Given _ _ _) (pair {n = n} {m = m} {t = t} is new read e) = sym (fresh_part z n (found t m) is new (read_found z (n + 1) m t read) ∙ ap (λ b. cond b (Given (take n z) t m) (Faulty f.Bad)) e)
   part_one z (Faulty _) (no_port some e never) = sym (no_port_part z e never)
@@ -136,7 +136,7 @@ each_found (Err w) f is = tt
 
 -- ---- each part but a fault has some bytes of the line
 
-abbrev pub Takes : LinePart → ℕ → Type 0
+abbrev pub Takes : InputPart → ℕ → Type 0
 Takes Blank most = 1 ≤ most
 Takes (Given port t n) most = (0 < n) × (n ≤ most)
 Takes (Faulty fault) most = 0 < most
@@ -149,7 +149,7 @@ filled : (z : List ℕ) → z ≢ [] → 0 < length z
 filled [] full = absurd (full refl)
 filled (b ∷ z) full = omega arith
 
-pub takes : (span : Span) (table : InputTable) (z : List ℕ) (p : LinePart) → BeginsPart span table z p → Takes p (length z)
+pub takes : (span : Span) (table : InputTable) (z : List ℕ) (p : InputPart) → BeginsPart span table z p → Takes p (length z)
 takes span table z Blank e = some_blank z e
 takes span table z (Given _ _ _) (pair is new read e) =
     let ordered = read.ordered in

@@ -11,8 +11,8 @@ use Rattle.tp_value.specs.Limits.{item_limit, value_depth_limit, items_in, depth
 use Rattle.tp_value.specs.Room.{IsWithinListLimit}
 use Rattle.tp_meaning.specs.Inputs.{InputRow, InputPort, InputTable, has_state, row_value, port_of, range_value, default_value, input_at}
 use Rattle.tp_inputs.specs.declared.span.Span.{Span}
-use Rattle.tp_inputs.specs.declared.span.Head.{Head}
-use Rattle.tp_inputs.specs.declared.span.Head.TheVariants.{Speaks, Silent, Unheard}
+use Rattle.tp_inputs.specs.declared.span.LineHead.{LineHead}
+use Rattle.tp_inputs.specs.declared.span.LineHead.TheVariants.{Speaks, Silent, Unheard}
 use Rattle.tp_inputs.specs.Spans.{are_rows, IsCanonical, span_has, is_others, GivesValue, has_ranges, head_of}
 use Rattle.tp_inputs.specs.Table.{pair, PassesPart, blank, given, ReadsPairs, here, passes, IsLine, IsInputsText, AreLines}
 use Rattle.tp_inputs.specs.Laws.{TablesAreWithin}
@@ -132,7 +132,7 @@ module _ (P : Tree → Type 0) where
     pairs_have span z old _ _ here h = h
     pairs_have span z old rest new (passes {n = n} {more = more} is r) h = pairs_have span (drop n z) more rest new r (part_has span z old more n is h)
 
-    line_has : (head : Head) (line : List ℕ) (old new : InputTable) → IsLine head line old new → ValuesHave P old → ValuesHave P new
+    line_has : (head : LineHead) (line : List ℕ) (old new : InputTable) → IsLine head line old new → ValuesHave P old → ValuesHave P new
     line_has (Speaks span n) line old new is h = pairs_have span (drop n line) old [] new is h
     line_has Silent line old new is h = subst (ValuesHave P) (sym is) h
     line_has Unheard line old new is h = absurd is

@@ -11,8 +11,8 @@ use Rattle.tp_inputs.specs.declared.refusal.InputsRefusal.TheVariants as r
 use Rattle.tp_inputs.specs.declared.refusal.LineRefusal.{LineRefusal}
 use Rattle.tp_inputs.specs.declared.refusal.LineRefusal.TheVariants as l
 use Rattle.tp_inputs.specs.declared.span.Span.{Span}
-use Rattle.tp_inputs.specs.declared.span.Head.{Head}
-use Rattle.tp_inputs.specs.FirstPart.{LinePart, Blank, Given, Faulty}
+use Rattle.tp_inputs.specs.declared.span.LineHead.{LineHead}
+use Rattle.tp_inputs.specs.FirstPart.{InputPart, Blank, Given, Faulty}
 use Rattle.tp_inputs.specs.Table.{BeginsFault, StopsAt, HasFault}
 use Rattle.tp_inputs.specs.Model.{table_of}
 use Rattle.tp_inputs.specs.Spans.{is_given}
@@ -21,7 +21,7 @@ abbrev pub inputs_of : Inputs → InputTable
 inputs_of t = table_of t.ports
 
 -- the part that the code found, in a line that speaks for this span behind this table
-abbrev pub part_of : Span → InputTable → FoundPart → LinePart
+abbrev pub part_of : Span → InputTable → FoundPart → InputPart
 part_of span table p.Blank = Blank
 part_of span table (p.Pair port value len) =
     if is_given table span port then Faulty Twice else Given port (tree value) len
@@ -47,6 +47,6 @@ IsPairsRefusal span table z (l.Fault fault) = StopsAt span z table fault
 IsPairsRefusal span table z l.NoMemory = Unit {0}
 
 -- what was answered of a line, unless memory ran out
-abbrev pub IsLineRefusal : Head → List ℕ → InputTable → LineRefusal → Type 0
+abbrev pub IsLineRefusal : LineHead → List ℕ → InputTable → LineRefusal → Type 0
 IsLineRefusal head line table (l.Fault fault) = HasFault head line table fault
 IsLineRefusal head line table l.NoMemory = Unit {0}

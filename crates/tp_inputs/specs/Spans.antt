@@ -11,8 +11,8 @@ use Rattle.tp_inputs.specs.declared.span.Span.TheVariants.{States, Others}
 use Rattle.std.specs.List.{position, prefix_len, list_all}
 use Rattle.std.specs.Char.{is_ascii_digit}
 use Rattle.tp_value.specs.Spelling.{is_value_blank, decimal_value}
-use Rattle.tp_inputs.specs.declared.span.Head.{Head}
-use Rattle.tp_inputs.specs.declared.span.Head.TheVariants.{Speaks, Silent, Unheard}
+use Rattle.tp_inputs.specs.declared.span.LineHead.{LineHead}
+use Rattle.tp_inputs.specs.declared.span.LineHead.TheVariants.{Speaks, Silent, Unheard}
 
 -- ---- tables in their one form: two tables that say the same are one table
 
@@ -121,12 +121,12 @@ range_of z = if bytes_eq z (codes "*") then Some Others else cut_range z (positi
 abbrev pub is_range_byte : ℕ → Bool
 is_range_byte b = is_ascii_digit b || (b == 45 || b == 42)
 
-abbrev pub range_head : Option Span → ℕ → Head
+abbrev pub range_head : Option Span → ℕ → LineHead
 range_head None n = Unheard
 range_head (Some span) n = Speaks span n
 
 -- blanks, a range, blanks, and a colon
-abbrev pub colon_head : List ℕ → (blanks : ℕ) → Head
+abbrev pub colon_head : List ℕ → (blanks : ℕ) → LineHead
 colon_head line blanks =
     let rest = drop blanks line in
     let n = prefix_len is_range_byte rest in
@@ -136,14 +136,14 @@ colon_head line blanks =
     else Unheard
 
 -- a line of the second format: blank, or a range with a colon, and behind it pairs
-unfoldable pub ranged_head : List ℕ → Head
+unfoldable pub ranged_head : List ℕ → LineHead
 ranged_head line =
     let blanks = prefix_len is_value_blank line in
     if blanks == length line then Silent else colon_head line blanks
 
 -- The line with this number, from 0. In the first format it speaks for the state of that number; in
 -- the second, the first line says nothing.
-abbrev pub head_of : Bool → ℕ → List ℕ → Head
+abbrev pub head_of : Bool → ℕ → List ℕ → LineHead
 head_of false k line = Speaks (States k k) 0
 head_of true zero line = Silent
 head_of true (suc k) line = ranged_head line

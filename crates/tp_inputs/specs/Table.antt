@@ -9,8 +9,8 @@ use Rattle.tp_lex.specs.Pieces.{IsNoWord}
 use Rattle.tp_meaning.specs.Inputs.{InputTable}
 use Rattle.tp_inputs.specs.declared.span.Span.{Span}
 use Rattle.tp_inputs.specs.Spans.{is_given, GivesValue, has_ranges, head_of}
-use Rattle.tp_inputs.specs.declared.span.Head.{Head}
-use Rattle.tp_inputs.specs.declared.span.Head.TheVariants.{Speaks, Silent, Unheard}
+use Rattle.tp_inputs.specs.declared.span.LineHead.{LineHead}
+use Rattle.tp_inputs.specs.declared.span.LineHead.TheVariants.{Speaks, Silent, Unheard}
 use Rattle.tp_value.specs.declared.reading.ReadValue.{ReadValue}
 use Rattle.tp_value.specs.declared.reading.ReadValue.TheVariants.{NoValue, TooLarge, TooLong, TooDeep, NoMemory}
 use Rattle.tp_value.specs.Reading.{refused, value_answer}
@@ -61,7 +61,7 @@ pub data ReadsPairs (span : Span) : List ℕ → InputTable → List ℕ → Inp
       → ReadsPairs span z table rest all
 
 -- with what the line says, the first table becomes the second
-abbrev pub IsLine : Head → List ℕ → InputTable → InputTable → Type 0
+abbrev pub IsLine : LineHead → List ℕ → InputTable → InputTable → Type 0
 IsLine (Speaks span n) line table more = ReadsPairs span (drop n line) table [] more
 IsLine Silent line table more = more ≡ table
 IsLine Unheard line table more = ⊥
@@ -99,7 +99,7 @@ pub record StopsAt (span : Span) (z : List ℕ) (table : InputTable) (fault : Fa
   pub faulty : BeginsFault span more rest fault
 
 -- the line, behind this table, is read up to this fault
-abbrev pub HasFault : Head → List ℕ → InputTable → Fault → Type 0
+abbrev pub HasFault : LineHead → List ℕ → InputTable → Fault → Type 0
 HasFault (Speaks span n) line table fault = StopsAt span (drop n line) table fault
 HasFault Silent line table fault = ⊥
 HasFault Unheard line table fault = fault ≡ f.Bad

@@ -6,7 +6,7 @@ ghost use Rattle.tp_value.specs.Spelling.{is_value_blank, decimal_value};
 ghost use Rattle.tp_inputs.specs.Spans as spec;
 ghost use Rattle.tp_inputs.specs.Bounds.{IsSpan, HeadBounds};
 
-use crate::span::{Head, Span};
+use crate::span::{LineHead, Span};
 
 /// The last state that a range may name.
 pub const LAST_STATE: u64 = 99_999_999;
@@ -141,23 +141,23 @@ fn range_of(text: &[u8]) -> Option<Span>
 
 /// What a line of the second format begins with.
 #[tactic(auto, unfolding(crate::specs::Spans::ranged_head))]
-pub fn ranged_head(line: &[u8]) -> Head
+pub fn ranged_head(line: &[u8]) -> LineHead
     ensures value { result ≡ spec.ranged_head line.now }
     ensures within { HeadBounds line.now result }
 {
     let blanks = blank_len(line);
     if blanks == line.len() {
-        return Head::Silent;
+        return LineHead::Silent;
     }
     let rest = &line[blanks..];
     let len = range_len(rest);
     let after = &rest[len..];
     let more = blank_len(after);
     if more == after.len() || after[more] != b':' {
-        return Head::Unheard;
+        return LineHead::Unheard;
     }
     match range_of(&rest[..len]) {
-        Some(span) => Head::Speaks(span, blanks + len + more + 1),
-        None => Head::Unheard,
+        Some(span) => LineHead::Speaks(span, blanks + len + more + 1),
+        None => LineHead::Unheard,
     }
 }

@@ -10,7 +10,7 @@ use crate::fault::Fault;
 use crate::part::{FoundPart, first_part};
 use crate::ports::Ports;
 use crate::refusal::LineRefusal;
-use crate::span::{Head, Span};
+use crate::span::{LineHead, Span};
 use std::alloc::Global;
 
 // Takes what the rest of a line begins with, a blank or a pair, and tells how many bytes it has.
@@ -71,7 +71,7 @@ fn take_pairs(alloc: Global, text: &[u8], span: Span, ports: &mut Ports) -> Resu
 pub fn take_line(
     alloc: Global,
     line: &[u8],
-    head: Head,
+    head: LineHead,
     ports: &mut Ports,
 ) -> Result<(), LineRefusal>
     requires head { HeadBounds line.now head }
@@ -83,8 +83,8 @@ pub fn take_line(
         IsLineRefusal head line.now (table_of ports.old) refusal) }
 {
     match head {
-        Head::Speaks(span, len) => take_pairs(alloc, &line[len..], span, ports),
-        Head::Silent => Ok(()),
-        Head::Unheard => Err(LineRefusal::Fault(Fault::Bad)),
+        LineHead::Speaks(span, len) => take_pairs(alloc, &line[len..], span, ports),
+        LineHead::Silent => Ok(()),
+        LineHead::Unheard => Err(LineRefusal::Fault(Fault::Bad)),
     }
 }

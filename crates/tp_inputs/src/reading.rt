@@ -12,7 +12,7 @@ use crate::inputs::Inputs;
 use crate::line::take_line;
 use crate::ports::Ports;
 use crate::refusal::InputsRefusal;
-use crate::span::{Head, Span};
+use crate::span::{LineHead, Span};
 use std::alloc::Global;
 use tp_lex::first_line;
 
@@ -24,7 +24,7 @@ fn has_ranges(bytes: &[u8]) -> bool
 }
 
 // For which states the line with that number, from 0, speaks.
-fn head_of(second: bool, number: u64, line: &[u8]) -> Head
+fn head_of(second: bool, number: u64, line: &[u8]) -> LineHead
     requires { number < 2 ^ 63 }
     ensures value { result ≡ spec.head_of second number line.now }
     ensures within { HeadBounds line.now result }
@@ -34,9 +34,9 @@ fn head_of(second: bool, number: u64, line: &[u8]) -> Head
             first: number,
             last: number,
         };
-        Head::Speaks(states, 0)
+        LineHead::Speaks(states, 0)
     } else if number == 0 {
-        Head::Silent
+        LineHead::Silent
     } else {
         ranged_head(line)
     }

@@ -9,7 +9,7 @@ pub enum Span {
 /// What a line begins with: the states for which it speaks, and how many bytes that takes; nothing, since it says nothing; or
 /// something else.
 #[derive(Clone, Copy)]
-pub enum Head {
+pub enum LineHead {
     Speaks(Span, usize),
     Silent,
     Unheard,

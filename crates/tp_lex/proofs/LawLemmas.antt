@@ -12,7 +12,7 @@ use Rattle.tp_lex.specs.declared.piece.Piece.TheVariants.{Gap, Lexeme, Refused}
 use Rattle.tp_lex.specs.First.{first_piece}
 use Rattle.tp_lex.specs.Place.{place_of, place_from, place_after, text_start, token_at}
 use Rattle.tp_lex.specs.Pieces.{BeginsPiece, blank, comment, word, upper, lower, number, symbol, bad_byte, open_comment, large_number, long_name}
-use Rattle.tp_lex.specs.Tokens.{ReadsTokens, Ending, Whole, Fails, whole, gap, lexeme, fails, refusal_at}
+use Rattle.tp_lex.specs.Tokens.{ReadsTokens, ReadingEnd, Whole, Fails, whole, gap, lexeme, fails, refusal_at}
 use Rattle.tp_lex.specs.Laws.{EachTextIsRead, OneTokenList, OneRefusal, NeverBoth, PlacesCount, HasItsCase, HaveTheirCase, NamesHaveTheirCase}
 use Rattle.tp_lex.proofs.PieceLemmas.{piece_one, piece_found, some_name, Takes}
 
@@ -43,10 +43,10 @@ at_end : (bytes : List ℕ) (at : ℕ) (p : Piece) → at ≡ length bytes → B
 at_end bytes at p e is = let some = full (drop at bytes) p is in let none = length-drop at bytes in omega arith
 
 -- what two readings from one place have in common
-abbrev Same : List Token → Ending → List Token → Ending → Type 0
+abbrev Same : List Token → ReadingEnd → List Token → ReadingEnd → Type 0
 Same ts e us f = (ts ≡ us) × (e ≡ f)
 
-one_reading : (bytes : List ℕ) (at : ℕ) (ts us : List Token) (e f : Ending) → ReadsTokens bytes at ts e → ReadsTokens bytes at us f → Same ts e us f
+one_reading : (bytes : List ℕ) (at : ℕ) (ts us : List Token) (e f : ReadingEnd) → ReadsTokens bytes at ts e → ReadsTokens bytes at us f → Same ts e us f
 one_reading bytes at _ _ _ _ (whole e) (whole f) = (refl, refl)
 one_reading bytes at _ _ _ _ (whole e) (gap is r) = absurd (at_end bytes at _ e is)
 one_reading bytes at _ _ _ _ (whole e) (lexeme is r) = absurd (at_end bytes at _ e is)
@@ -78,7 +78,7 @@ one_reading bytes at _ _ _ _ (fails {fault = fault} is) (fails {fault = other} j
 
 -- some reading of what is left
 abbrev Read : List ℕ → ℕ → Type 0
-Read bytes at = (ts : List Token) × (end : Ending) × ReadsTokens bytes at ts end
+Read bytes at = (ts : List Token) × (end : ReadingEnd) × ReadsTokens bytes at ts end
 
 read_on : (bytes : List ℕ) (at : ℕ) (p : Piece) → BeginsPiece (drop at bytes) p → ((n : ℕ) → 0 < n → n ≤ length (drop at bytes) → Read bytes (at + n)) → Takes p (length (drop at bytes)) → Read bytes at
 read_on bytes at (Gap n) is more t = let later = more n t.0 t.1 in (later.0, later.1, gap is later.2)
@@ -150,7 +150,7 @@ piece_case z _ (upper {n = n} is low never u) = let some = some_name z n is in a
 piece_case z _ (lower {n = n} is low never u) = let some = some_name z n is in ap is_ascii_lowercase (first_stays z n some.0) ∙ not_upper (slice_index z 0) is.letter u
 piece_case z _ _ = tt
 
-cases_from : (bytes : List ℕ) (at : ℕ) (ts : List Token) (end : Ending) → ReadsTokens bytes at ts end → HaveTheirCase ts
+cases_from : (bytes : List ℕ) (at : ℕ) (ts : List Token) (end : ReadingEnd) → ReadsTokens bytes at ts end → HaveTheirCase ts
 cases_from bytes at _ _ (whole e) = tt
 cases_from bytes at ts end (gap {n = n} is r) = cases_from bytes (at + n) ts end r
 cases_from bytes at _ end (lexeme {n = n} {ts = ts} is r) = (piece_case (drop at bytes) _ is, cases_from bytes (at + n) ts end r)

@@ -9,7 +9,7 @@ use Rattle.tp_lex.specs.declared.piece.Piece.{Piece}
 use Rattle.tp_lex.specs.declared.piece.Piece.TheVariants.{Gap, Lexeme, Refused}
 use Rattle.tp_lex.specs.Bytes.{is_name_byte}
 use Rattle.tp_lex.specs.Pieces.{IsName, BeginsPiece, word, upper, lower, number, symbol}
-use Rattle.tp_lex.specs.Tokens.{ReadsTokens, Ending, Whole, whole, gap, lexeme, fails}
+use Rattle.tp_lex.specs.Tokens.{ReadsTokens, ReadingEnd, Whole, whole, gap, lexeme, fails}
 use Rattle.tp_lex.specs.Names.{own_names, token_names, IsNameText, NamesAreSpelled}
 use Rattle.tp_lex.proofs.PieceLemmas.{some_name}
 use Rattle.tp_lex.proofs.LawLemmas.{first_stays}
@@ -53,7 +53,7 @@ piece_spelled z _ (number are low) = no_names
 piece_spelled z _ (symbol is) = no_names
 piece_spelled z _ _ = tt
 
-spelled_from : (bytes : List ℕ) (at : ℕ) (ts : List Token) (end : Ending) → ReadsTokens bytes at ts end → All IsNameText (token_names ts)
+spelled_from : (bytes : List ℕ) (at : ℕ) (ts : List Token) (end : ReadingEnd) → ReadsTokens bytes at ts end → All IsNameText (token_names ts)
 spelled_from bytes at _ _ (whole e) = no_names
 spelled_from bytes at ts end (gap {n = n} is r) = spelled_from bytes (at + n) ts end r
 spelled_from bytes at _ end (lexeme {n = n} {kind = kind} {ts = ts} is r) =

@@ -12,11 +12,11 @@ use Rattle.tp_lex.specs.declared.piece.Piece.{Piece}
 use Rattle.tp_lex.specs.declared.piece.Piece.TheVariants.{Gap, Lexeme, Refused}
 use Rattle.tp_lex.specs.Place.{place_of, place_from, place_after, token_at, text_start}
 use Rattle.tp_lex.specs.Pieces.{BeginsPiece}
-use Rattle.tp_lex.specs.Tokens.{ReadsTokens, Ending, Whole, Fails, whole, gap, lexeme, fails, refusal_at, IsRefused, IsRefusedUnlessMemory, AreTokens}
+use Rattle.tp_lex.specs.Tokens.{ReadsTokens, ReadingEnd, Whole, Fails, whole, gap, lexeme, fails, refusal_at, IsRefused, IsRefusedUnlessMemory, AreTokens}
 
 -- what the text reads as from the byte `at` on stands behind the tokens that were found
 abbrev pub Continues : List ℕ → ℕ → List Token → Type 0
-Continues bytes at found = (ts : List Token) (end : Ending) → ReadsTokens bytes at ts end → ReadsTokens bytes 0 (found ++ ts) end
+Continues bytes at found = (ts : List Token) (end : ReadingEnd) → ReadsTokens bytes at ts end → ReadsTokens bytes 0 (found ++ ts) end
 
 -- after a gap
 pub past_gap : (bytes : List ℕ) (at n m : ℕ) (p : Piece) (found new : List Token) → Continues bytes at found → BeginsPiece (drop at bytes) p → p ≡ Gap n → m ≡ n → new ≡ found

@@ -5,12 +5,13 @@ use Rattle.tp_lex.specs.declared.token.Kind.{Kind}
 use Rattle.tp_lex.specs.declared.token.Kind.TheVariants.{Upper, Lower}
 use Rattle.tp_lex.specs.declared.token.Token.{Token}
 use Rattle.tp_lex.specs.declared.refusal.LexRefusal.{LexRefusal}
-use Rattle.tp_lex.specs.Tokens.{Ending, ReadsTokens, AreTokens, IsRefused}
+use Rattle.tp_lex.specs.Tokens.{ReadingEnd, ReadsTokens, AreTokens, IsRefused}
 use Rattle.tp_lex.specs.Place.{place_of}
 
 -- each text is some tokens, or is refused
 abbrev pub EachTextIsRead : Type 0
-EachTextIsRead = (bytes : List ℕ) → (ts : List Token) × (end : Ending) × ReadsTokens bytes 0 ts end
+EachTextIsRead =
+    (bytes : List ℕ) → (ts : List Token) × (end : ReadingEnd) × ReadsTokens bytes 0 ts end
 
 abbrev pub OneTokenList : Type 0
 OneTokenList =

@@ -18,16 +18,16 @@ refusal_at NumberTooLarge at = r.NumberTooLarge at
 refusal_at NameTooLong at = r.NameTooLong at
 
 -- how a reading ends: with the whole text, or at a fault
-pub data Ending : Type 0 where
-  Whole : Ending
-  Fails : LexRefusal → Ending
+pub data ReadingEnd : Type 0 where
+  Whole : ReadingEnd
+  Fails : LexRefusal → ReadingEnd
 
 -- From the byte `at` on, the text reads as these tokens and ends so.
-pub data ReadsTokens (bytes : List ℕ) : ℕ → List Token → Ending → Type 0 where
+pub data ReadsTokens (bytes : List ℕ) : ℕ → List Token → ReadingEnd → Type 0 where
   whole : {at : ℕ} → at ≡ length bytes → ReadsTokens bytes at [] Whole
-  gap : {at n : ℕ} {ts : List Token} {end : Ending} → BeginsPiece (drop at bytes) (Gap n)
+  gap : {at n : ℕ} {ts : List Token} {end : ReadingEnd} → BeginsPiece (drop at bytes) (Gap n)
       → ReadsTokens bytes (at + n) ts end → ReadsTokens bytes at ts end
-  lexeme : {at n : ℕ} {kind : Kind} {ts : List Token} {end : Ending}
+  lexeme : {at n : ℕ} {kind : Kind} {ts : List Token} {end : ReadingEnd}
       → BeginsPiece (drop at bytes) (Lexeme kind n) → ReadsTokens bytes (at + n) ts end
       → ReadsTokens bytes at (token_at kind n (place_of bytes at) ∷ ts) end
   fails : {at : ℕ} {fault : Fault} → BeginsPiece (drop at bytes) (Refused fault)

@@ -8,12 +8,12 @@ use Rattle.tp_tree.specs.declared.operator.Grouping.TheVariants.{Left, Single, R
 use Rattle.tp_tree.specs.Levels.{chop_level, grouping, level_right_of, right_level}
 use Rattle.tp_parse.specs.declared.mark.Mark.{Mark}
 use Rattle.tp_parse.specs.declared.mark.Mark.TheVariants as m
-use Rattle.tp_parse.specs.declared.mark.Role.{Role}
-use Rattle.tp_parse.specs.declared.mark.Role.TheVariants.{Ends, Infix, Opens, Joins}
+use Rattle.tp_parse.specs.declared.mark.TokenRole.{TokenRole}
+use Rattle.tp_parse.specs.declared.mark.TokenRole.TheVariants.{Ends, Infix, Opens, Joins}
 use Rattle.tp_parse.specs.declared.head.Listed.{Listed}
 use Rattle.tp_parse.specs.declared.head.Listed.TheVariants as l
-use Rattle.tp_parse.specs.declared.head.Head.{Head}
-use Rattle.tp_parse.specs.declared.head.Head.TheVariants as h
+use Rattle.tp_parse.specs.declared.head.PrimaryHead.{PrimaryHead}
+use Rattle.tp_parse.specs.declared.head.PrimaryHead.TheVariants as h
 use Rattle.tp_parse.specs.Marks.{role_at, start_of, listed_close, enclosed_close, middle, Tokens, mark, from, mark_due, past}
 use Rattle.tp_parse.specs.Readers.{Reader}
 use Rattle.tp_parse.specs.Head.{is_high}
@@ -44,7 +44,7 @@ not_closed : {k : ℕ} {ts rest : Tokens} {a : Found} (x : Listed) → Parses k 
 not_closed {ts = ts} x d e = begins_some d (due_begins_none (mark ts) (close_due x (mark_due ts) e))
 
 -- an atom's token, and that of operands, asks for no room
-begins_low : {ts rest : Tokens} {x : Head} → BeginsPrimary ts x rest → is_high (start_of (mark ts)) ≡ true → ((a : _) → x ≢ h.Atom a) × ((a : _) → x ≢ h.Listed a)
+begins_low : {ts rest : Tokens} {x : PrimaryHead} → BeginsPrimary ts x rest → is_high (start_of (mark ts)) ≡ true → ((a : _) → x ≢ h.Atom a) × ((a : _) → x ≢ h.Listed a)
 begins_low (number e) high = absurd cc
 begins_low (truth e) high = absurd cc
 begins_low (upper_name e) high = absurd cc
@@ -105,7 +105,7 @@ module _ (inner : ℕ → Reader Found) (room : ℕ) (complete : (k : ℕ) (ts :
   chained_is k at a {ts = ts} o some low low2 =
       rw (fits_is room a.height ts (omega arith) low, others_complete (λ q. cc) o (length ts) (operands_of (a.tree ∷ []) a.height) (omega arith) low2) refl
 
-  turn_is : (k at : ℕ) (a : Found) (ts : Tokens) (role : Role) → role_at k (mark ts) ≡ role → r.turn inner room k at a ts ≡ r.turn_by inner room k at a role ts
+  turn_is : (k at : ℕ) (a : Found) (ts : Tokens) (role : TokenRole) → role_at k (mark ts) ≡ role → r.turn inner room k at a ts ≡ r.turn_by inner room k at a role ts
   unfolding r.turn
   turn_is k at a ts role e = ap (λ q. r.turn_by inner room k at a q ts) e
 
@@ -135,7 +135,7 @@ module _ (inner : ℕ → Reader Found) (room : ℕ) (complete : (k : ℕ) (ts :
       rw (turn_is k at a ts Joins e, chained_is k at a o some (omega arith) (omega arith)) refl
 
   -- a primary by its head
-  primary_is : {ts mid : Tokens} {x : Head} → BeginsPrimary ts x mid → (is_high (start_of (mark ts)) ≡ true → 0 < room)
+  primary_is : {ts mid : Tokens} {x : PrimaryHead} → BeginsPrimary ts x mid → (is_high (start_of (mark ts)) ≡ true → 0 < room)
       → r.primary inner room ts ≡ r.primary_by inner room (from ts) x mid
   unfolding r.primary
   primary_is {ts} b some = rw (admit_is room (start_of (mark ts)) ts some, head_complete b) refl

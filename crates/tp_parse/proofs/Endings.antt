@@ -13,9 +13,9 @@ use Rattle.tp_parse.specs.declared.stop.Refusal.{Refusal}
 use Rattle.tp_parse.specs.declared.stop.Refusal.TheVariants.{Unfinished, TooDeep}
 use Rattle.tp_parse.specs.declared.mark.Mark.{Mark}
 use Rattle.tp_parse.specs.declared.mark.Mark.TheVariants as m
-use Rattle.tp_parse.specs.declared.mark.Role.{Role}
-use Rattle.tp_parse.specs.declared.mark.Role.TheVariants.{Ends, Infix, Opens, Joins}
-use Rattle.tp_parse.specs.declared.head.Head.{Head}
+use Rattle.tp_parse.specs.declared.mark.TokenRole.{TokenRole}
+use Rattle.tp_parse.specs.declared.mark.TokenRole.TheVariants.{Ends, Infix, Opens, Joins}
+use Rattle.tp_parse.specs.declared.head.PrimaryHead.{PrimaryHead}
 use Rattle.tp_parse.specs.declared.head.Listed.{Listed}
 use Rattle.tp_parse.specs.Marks.{kind_mark, role_of, role_at, level_of, start_of, listed_level, listed_close, Tokens, mark, mark_due, past}
 use Rattle.tp_parse.specs.Readers as readers
@@ -33,7 +33,7 @@ use Rattle.tp_parse.proofs.Fresh.{name_token, name_found, a_name, mark_is, past_
 use Rattle.tp_parse.proofs.Finishes.{Ended, failed, refused_end, deep_last}
 
 -- What finishes a phrase of a level: with any tokens that stop it, it is no higher than the room, where the tokens alone ended.
-pub record Ending (room k : ℕ) (ts : Tokens) (e : Refusal) : Type 0 where
+pub record FoundEnding (room k : ℕ) (ts : Tokens) (e : Refusal) : Type 0 where
   pub next : Tokens → Tokens
   pub finished : (ys : Tokens) → Stops ys → (x : Found) × Parses k (ts ++ next ys) x ys × (e ≡ Unfinished → 0 < room → x.height ≤ room)
   pub roomy : e ≡ Unfinished → 0 < length ts → 0 < room
@@ -130,7 +130,7 @@ index_last k at left ts ws end ys x role d due rest stops =
     (subst (λ us. Goes k at (of_index at left x) us (of_index at left x) ys) (sym rest) (g.ends (role_stopped k (mark ys) stops.0)))
 
 -- a head with operands has room for them, where its first token was let in
-pub roomed : {ts mid : Tokens} {x : Head} (room : ℕ) → BeginsPrimary ts x mid → (is_high (start_of (mark ts)) ≡ true → 0 < room) → HeadRoom room x
+pub roomed : {ts mid : Tokens} {x : PrimaryHead} (room : ℕ) → BeginsPrimary ts x mid → (is_high (start_of (mark ts)) ≡ true → 0 < room) → HeadRoom room x
 roomed room (g.number e) some = tt
 roomed room (g.truth e) some = tt
 roomed room (g.upper_name e) some = tt
@@ -154,10 +154,10 @@ some_begun k [] e = absurd cc
 some_begun k (t ∷ ts) e = omega arith
 
 -- where none may be 1 high
-pub unfit_finish : (k : ℕ) (ts : Tokens) (e : Refusal) → failed {A = Found} (unfit k ts) ≡ Err e → Ended e → Ending 0 k ts e
+pub unfit_finish : (k : ℕ) (ts : Tokens) (e : Refusal) → failed {A = Found} (unfit k ts) ≡ Err e → Ended e → FoundEnding 0 k ts e
 unfolding unfit
 unfit_finish k ts e is end =
-    elim (begins k (mark ts)) as (λ b. begins k (mark ts) ≡ b → failed {A = Found} (cond b (TooDeep (length ts)) (readers.refusal ts)) ≡ Err e → Ending 0 k ts e) [
+    elim (begins k (mark ts)) as (λ b. begins k (mark ts) ≡ b → failed {A = Found} (cond b (TooDeep (length ts)) (readers.refusal ts)) ≡ Err e → FoundEnding 0 k ts e) [
       | true ↦ λ yes w.
           let last = deep_last ts e w end (some_begun k ts yes) in
           let same : mark ts ≡ kind_mark last.0.kind = ap mark last.1 ∙ mark_is last.0 [] in
@@ -191,7 +191,7 @@ module _ (inner : ℕ → Reader Found) (room : ℕ) (sound : (k : ℕ) (ts : To
   abbrev pub Steps : ℕ → ℕ → Found → Tokens → (Found × Bool) × Tokens → Type 0
   Steps k at left ts q = q.0.1 ≡ true → (ws : Tokens) → 0 < length q.1 → (x : Found) (last : Tokens) → Goes k at q.0.0 (q.1 ++ ws) x last → Goes k at left (ts ++ ws) x last
 
-  turn_by_steps : (k at : ℕ) (left : Found) (role : Role) (ts : Tokens) (q : (Found × Bool) × Tokens) → role_at k (mark ts) ≡ role → r.turn_by inner room k at left role ts ≡ Ok q → Steps k at left ts q
+  turn_by_steps : (k at : ℕ) (left : Found) (role : TokenRole) (ts : Tokens) (q : (Found × Bool) × Tokens) → role_at k (mark ts) ≡ role → r.turn_by inner room k at left role ts ≡ Ok q → Steps k at left ts q
   unfolding r.operated r.indexed r.part
   turn_by_steps k at left Ends ts q role e = subst (Steps k at left ts) (ok_is ((left, false), ts) q e) (λ yes. absurd cc)
   turn_by_steps k at left (Infix o) ts q role e =

@@ -4,17 +4,17 @@ use Rattle.tp_lex.specs.declared.token.Word.TheVariants as word
 use Rattle.tp_tree.specs.Tree.{DefinitionTree}
 use Rattle.tp_parse.specs.declared.mark.Mark.{Mark}
 use Rattle.tp_parse.specs.declared.mark.Mark.TheVariants as m
-use Rattle.tp_parse.specs.declared.mark.Role.{Role}
-use Rattle.tp_parse.specs.declared.mark.Role.TheVariants.{Ends}
+use Rattle.tp_parse.specs.declared.mark.TokenRole.{TokenRole}
+use Rattle.tp_parse.specs.declared.mark.TokenRole.TheVariants.{Ends}
 use Rattle.tp_parse.specs.declared.head.Atom.{Atom}
-use Rattle.tp_parse.specs.declared.head.Head.{Head}
+use Rattle.tp_parse.specs.declared.head.PrimaryHead.{PrimaryHead}
 use Rattle.tp_parse.specs.declared.head.Listed.{Listed}
 use Rattle.tp_parse.specs.declared.head.Listed.TheVariants as listed
 use Rattle.tp_parse.specs.declared.head.Pair.{Pair}
 use Rattle.tp_parse.specs.declared.head.Pair.TheVariants as pair
 use Rattle.tp_parse.specs.declared.mark.Enclosure.{Enclosure}
 use Rattle.tp_parse.specs.declared.mark.Enclosure.TheVariants.{Round, Curly, Size}
-use Rattle.tp_parse.specs.declared.head.Head.TheVariants as h
+use Rattle.tp_parse.specs.declared.head.PrimaryHead.TheVariants as h
 use Rattle.tp_parse.specs.Marks.{same, prefix_at, role_of, role_at, level_of, comma, listed_close, enclosed_close, middle, Tokens, mark, from, first_number, first_name, mark_due, half_mark, past, left_of}
 use Rattle.tp_parse.specs.Marks as input
 use Rattle.tp_parse.specs.Grammar.{Found, Operands, start, open_round, close_round, ReadsNames, last_name, name_then, BeginsPrimary, number, truth, upper_name, lower_name, call, bare, form, empty_list, list, enclosure, if, while, repeat, for, forall, exists, Parses, atom, enclosed, if_then, if_else, paired, quantified, level, Goes, ends, left, single, right, joins, Others, no_more, one_more, Listing, no_operands, operands, Parameters, no_parameters, parameters, Sentence, sentence, Defines, defines, Definitions, no_definition, definition_then}
@@ -85,7 +85,7 @@ unfolding mark
 some_phrase {ts = []} d = absurd (begins_some d (refl, refl))
 some_phrase {ts = t ∷ ts} d = omega arith
 
-pub some_head : {ts rest : Tokens} {x : Head} → BeginsPrimary ts x rest → 0 < length ts
+pub some_head : {ts rest : Tokens} {x : PrimaryHead} → BeginsPrimary ts x rest → 0 < length ts
 unfolding mark
 some_head {ts = []} b = absurd (begins_start b refl)
 some_head {ts = t ∷ ts} b = omega arith
@@ -103,10 +103,10 @@ names_on {ts = []} ws (name_then (inr n) e d) stops = absurd cc
 names_on {ts = t ∷ []} ws (name_then n e d) stops = absurd cc
 names_on {ts = t ∷ u ∷ ts} ws (name_then n e d) stops = name_then {ts = t ∷ u ∷ ts ++ ws} n e (names_on ws d stops)
 
-abbrev pub HeadFollows : Head → Tokens → Tokens → Type 0
+abbrev pub HeadFollows : PrimaryHead → Tokens → Tokens → Type 0
 HeadFollows x rest ws = (a : Atom) → x ≡ h.Atom a → length rest ≤ 0 → mark ws ≢ open_round
 
-pub head_on : {ts rest : Tokens} {x : Head} (ws : Tokens) → BeginsPrimary ts x rest → HeadFollows x rest ws → BeginsPrimary (ts ++ ws) x (rest ++ ws)
+pub head_on : {ts rest : Tokens} {x : PrimaryHead} (ws : Tokens) → BeginsPrimary ts x rest → HeadFollows x rest ws → BeginsPrimary (ts ++ ws) x (rest ++ ws)
 unfolding mark first_name first_number
 head_on {ts = []} ws b stops = absurd (begins_start b refl)
 head_on {ts = t ∷ ts} ws (number e) stops = number {ts = t ∷ ts ++ ws} e
@@ -147,10 +147,10 @@ unfolding mark
 role_on [] ws k e stops = role_stopped k (mark ws) (stops.stops (omega arith)).0
 role_on (t ∷ ts) ws k e stops = e
 
-pub role_more : (ts ws : Tokens) (k : ℕ) (x : Role) → role_at k (mark ts) ≡ x → 0 < length ts → role_at k (mark (ts ++ ws)) ≡ x
+pub role_more : (ts ws : Tokens) (k : ℕ) (x : TokenRole) → role_at k (mark ts) ≡ x → 0 < length ts → role_at k (mark (ts ++ ws)) ≡ x
 role_more ts ws k x e some = ap (role_at k) (mark_on ts ws some) ∙ e
 
-pub some_role : (k : ℕ) (ts : Tokens) {x : Role} → role_at k (mark ts) ≡ x → x ≢ Ends → 0 < length ts
+pub some_role : (k : ℕ) (ts : Tokens) {x : TokenRole} → role_at k (mark ts) ≡ x → x ≢ Ends → 0 < length ts
 some_role k ts e real = some_by_role k ts (λ q. real (sym e ∙ q))
 
 pub enclosed_real : (e : Enclosure) → enclosed_close e ≢ m.End

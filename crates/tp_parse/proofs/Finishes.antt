@@ -11,8 +11,8 @@ use Rattle.tp_parse.specs.declared.mark.Mark.TheVariants as m
 use Rattle.tp_parse.specs.declared.mark.Start.{Start}
 use Rattle.tp_parse.specs.declared.mark.Start.TheVariants as s
 use Rattle.tp_parse.specs.declared.head.Atom.TheVariants as a
-use Rattle.tp_parse.specs.declared.head.Head.{Head}
-use Rattle.tp_parse.specs.declared.head.Head.TheVariants as h
+use Rattle.tp_parse.specs.declared.head.PrimaryHead.{PrimaryHead}
+use Rattle.tp_parse.specs.declared.head.PrimaryHead.TheVariants as h
 use Rattle.tp_parse.specs.declared.head.Listed.TheVariants as l
 use Rattle.tp_parse.specs.declared.head.Pair.{Pair}
 use Rattle.tp_parse.specs.declared.head.Pair.TheVariants as p
@@ -165,7 +165,7 @@ names_finish ts e is end =
 
 -- what finishes a head
 pub record HeadEnding (x : Start) (ts : Tokens) : Type 0 where
-  pub head : Head
+  pub head : PrimaryHead
   pub next : Tokens → Tokens
   pub begun : (ys : Tokens) → BeginsPrimary (ts ++ next ys) head ys
   pub room : (n : ℕ) → (is_high x ≡ true → 0 < n) → HeadRoom n head

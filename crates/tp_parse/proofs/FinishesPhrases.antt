@@ -8,11 +8,11 @@ use Rattle.tp_parse.specs.declared.stop.Refusal.{Refusal}
 use Rattle.tp_parse.specs.declared.stop.Refusal.TheVariants.{Unfinished}
 use Rattle.tp_parse.specs.declared.mark.Mark.{Mark}
 use Rattle.tp_parse.specs.declared.mark.Mark.TheVariants as m
-use Rattle.tp_parse.specs.declared.mark.Role.{Role}
-use Rattle.tp_parse.specs.declared.mark.Role.TheVariants.{Ends, Infix, Opens, Joins}
+use Rattle.tp_parse.specs.declared.mark.TokenRole.{TokenRole}
+use Rattle.tp_parse.specs.declared.mark.TokenRole.TheVariants.{Ends, Infix, Opens, Joins}
 use Rattle.tp_parse.specs.declared.mark.Start.TheVariants as s
-use Rattle.tp_parse.specs.declared.head.Head.{Head}
-use Rattle.tp_parse.specs.declared.head.Head.TheVariants as h
+use Rattle.tp_parse.specs.declared.head.PrimaryHead.{PrimaryHead}
+use Rattle.tp_parse.specs.declared.head.PrimaryHead.TheVariants as h
 use Rattle.tp_parse.specs.declared.head.Listed.{Listed}
 use Rattle.tp_parse.specs.declared.head.Pair.{Pair}
 use Rattle.tp_parse.specs.Marks.{same, kind_mark, prefix_at, role_at, start_of, comma, listed_level, listed_close, enclosed_level, enclosed_close, middle, Tokens, mark, from, mark_due, past}
@@ -31,10 +31,10 @@ use Rattle.tp_parse.proofs.Within.{some_by_prefix}
 use Rattle.tp_parse.proofs.Extended.{Stops, something, role_stopped, joined_not, mark_on, some_mark, some_due, some_role, role_more, due_on, phrase_on, past_phrase, drop_phrase, from_on, some_phrase, head_on, middle_real}
 use Rattle.tp_parse.proofs.Fresh.{name_token, name_found, a_name, mark_is, Closing, due_close, past_close, stops_close, by_symbol, by_word, enclosure_close, middle_close, list_token, list_due, no_items, list_end, list_end_stops, last_items, HeadRoom, after_head, alone}
 use Rattle.tp_parse.proofs.Finishes.{Ended, bind_err, expect_err, deep_last, deepen_err, deepen_room, fits_err, fits_room, admit_err, admit_room, head_finish, some_start}
-use Rattle.tp_parse.proofs.Endings.{Ending, PartEnding, OthersEnding, ListEnding, PhraseEnding, GoesEnding, others_join, closed, joins_mark, after_last, infix_last, index_last, roomed, unfit_finish, part_ok, turn_steps}
+use Rattle.tp_parse.proofs.Endings.{FoundEnding, PartEnding, OthersEnding, ListEnding, PhraseEnding, GoesEnding, others_join, closed, joins_mark, after_last, infix_last, index_last, roomed, unfit_finish, part_ok, turn_steps}
 
 module _ (inner : ℕ → Reader Found) (room : ℕ) (sound : (k : ℕ) (ts : Tokens) (p : Found × Tokens) → inner k ts ≡ Ok p → Is room k ts p)
-    (finish : (k : ℕ) (ts : Tokens) (e : Refusal) → inner k ts ≡ Err e → Ended e → Ending room k ts e) where
+    (finish : (k : ℕ) (ts : Tokens) (e : Refusal) → inner k ts ≡ Err e → Ended e → FoundEnding room k ts e) where
   part_finish : (k : ℕ) (close : Mark) (c : Closing close) (ts : Tokens) (e : Refusal) → r.part inner room k close ts ≡ Err e → Ended e → (e ≡ Unfinished → 0 < room) → PartEnding room k close ts e
   unfolding r.part
   part_finish k close c ts e is end some =
@@ -92,7 +92,7 @@ module _ (inner : ℕ → Reader Found) (room : ℕ) (sound : (k : ℕ) (ts : To
         | inr w ↦ absurd cc
       ]
 
-  first_item : (x : Listed) (ts : Tokens) (e : Refusal) → Ending room (listed_level x) ts e → ListEnding room x ts e
+  first_item : (x : Listed) (ts : Tokens) (e : Refusal) → FoundEnding room (listed_level x) ts e → ListEnding room x ts e
   first_item x [] e f = (λ ys. list_token x ∷ ys, λ ys. (no_operand, no_items x ys, λ u. omega arith))
   first_item x (t ∷ ts) e f = (
     λ ys. f.next (list_end x ys),
@@ -216,7 +216,7 @@ module _ (inner : ℕ → Reader Found) (room : ℕ) (sound : (k : ℕ) (ts : To
             ]
       ]
 
-  primary_by_finish : (x : Head) (ts mid : Tokens) (e : Refusal) → BeginsPrimary ts x mid → HeadRoom room x → r.primary_by inner room (from ts) x mid ≡ Err e → Ended e → PhraseEnding room 0 ts e
+  primary_by_finish : (x : PrimaryHead) (ts mid : Tokens) (e : Refusal) → BeginsPrimary ts x mid → HeadRoom room x → r.primary_by inner room (from ts) x mid ≡ Err e → Ended e → PhraseEnding room 0 ts e
   primary_by_finish (h.Atom x) ts mid e b low is end = absurd cc
   primary_by_finish (h.Listed x) ts mid e b low is end =
       elim (bind_err (r.operands inner room (listed_level x) (listed_close x) mid) _ e is) [
@@ -368,7 +368,7 @@ module _ (inner : ℕ → Reader Found) (room : ℕ) (sound : (k : ℕ) (ts : To
             ]
       ]
 
-  turn_finish : (k at : ℕ) (left : Found) (role : Role) (ts : Tokens) (e : Refusal) → role_at k (mark ts) ≡ role → r.turn_by inner room k at left role ts ≡ Err e → Ended e → GoesEnding room k at left ts e
+  turn_finish : (k at : ℕ) (left : Found) (role : TokenRole) (ts : Tokens) (e : Refusal) → role_at k (mark ts) ≡ role → r.turn_by inner room k at left role ts ≡ Err e → Ended e → GoesEnding room k at left ts e
   turn_finish k at left Ends ts e role is end = absurd cc
   turn_finish k at left (Infix o) ts e role is end = elim (bind_err (r.operated inner room o at left ts) _ e is) [ inl w ↦ operated_finish k o at left ts e role w end | inr w ↦ absurd cc ]
   turn_finish k at left Opens ts e role is end = elim (bind_err (r.indexed inner room at left ts) _ e is) [ inl w ↦ indexed_finish k at left ts e role w end | inr w ↦ absurd cc ]
@@ -447,7 +447,7 @@ module _ (inner : ℕ → Reader Found) (room : ℕ) (sound : (k : ℕ) (ts : To
             ]
       ] refl is
 
-pub read_finish : (room k : ℕ) (ts : Tokens) (e : Refusal) → r.read room k ts ≡ Err e → Ended e → Ending room k ts e
+pub read_finish : (room k : ℕ) (ts : Tokens) (e : Refusal) → r.read room k ts ≡ Err e → Ended e → FoundEnding room k ts e
 unfolding r.read
 read_finish zero k ts e is end = unfit_finish k ts e is end
 read_finish (suc room) k ts e is end =

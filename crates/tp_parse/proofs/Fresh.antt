@@ -13,14 +13,14 @@ use Rattle.tp_parse.specs.declared.mark.Mark.{Mark}
 use Rattle.tp_parse.specs.declared.mark.Mark.TheVariants as m
 use Rattle.tp_parse.specs.declared.mark.Prefix.{Prefix}
 use Rattle.tp_parse.specs.declared.mark.Prefix.TheVariants.{Not, Minus, Next}
-use Rattle.tp_parse.specs.declared.mark.Role.TheVariants.{Ends}
+use Rattle.tp_parse.specs.declared.mark.TokenRole.TheVariants.{Ends}
 use Rattle.tp_parse.specs.declared.mark.Start.{Start}
 use Rattle.tp_parse.specs.declared.mark.Start.TheVariants as s
 use Rattle.tp_parse.specs.declared.mark.Enclosure.{Enclosure}
 use Rattle.tp_parse.specs.declared.mark.Enclosure.TheVariants as enclosure
 use Rattle.tp_parse.specs.declared.head.Atom.TheVariants as a
-use Rattle.tp_parse.specs.declared.head.Head.{Head}
-use Rattle.tp_parse.specs.declared.head.Head.TheVariants as h
+use Rattle.tp_parse.specs.declared.head.PrimaryHead.{PrimaryHead}
+use Rattle.tp_parse.specs.declared.head.PrimaryHead.TheVariants as h
 use Rattle.tp_parse.specs.declared.head.Listed.{Listed}
 use Rattle.tp_parse.specs.declared.head.Listed.TheVariants as l
 use Rattle.tp_parse.specs.declared.head.Pair.{Pair}
@@ -185,7 +185,7 @@ last_items x ys = g.one_more {ts = list_end x ys} refl (last_item x ys) (g.no_mo
 -- ---- after a head
 
 -- whether operands have room
-abbrev pub HeadRoom : ℕ → Head → Type 0
+abbrev pub HeadRoom : ℕ → PrimaryHead → Type 0
 HeadRoom room (h.Atom x) = Unit {0}
 HeadRoom room (h.Listed x) = Unit {0}
 HeadRoom room (h.Enclosed e) = 0 < room
@@ -194,10 +194,10 @@ HeadRoom room (h.Paired x) = 0 < room
 HeadRoom room (h.Exists xs) = 0 < room
 
 -- a primary that begins so, and is as low as can be
-abbrev pub Finished : ℕ → Head → Tokens → Tokens → Type 0
+abbrev pub Finished : ℕ → PrimaryHead → Tokens → Tokens → Type 0
 Finished room x ts ys = (y : Found) × Parses 0 ts y ys × (HeadRoom room x → y.height ≤ suc room)
 
-pub after_head : (room : ℕ) (x : Head) → (next : Tokens → Tokens) × ((ts ys : Tokens) → Stops ys → BeginsPrimary ts x (next ys) → Finished room x ts ys)
+pub after_head : (room : ℕ) (x : PrimaryHead) → (next : Tokens → Tokens) × ((ts ys : Tokens) → Stops ys → BeginsPrimary ts x (next ys) → Finished room x ts ys)
 after_head room (h.Atom x) = (λ ys. ys, λ ts ys stops b. (of_atom (from ts) x, g.atom b, λ some. omega arith))
 after_head room (h.Listed x) = (λ ys. list_token x ∷ ys, λ ts ys stops b. (of_operands (from ts) x no_operand, g.listed b (no_items x ys), λ some. omega arith))
 after_head room (h.Enclosed e) =
@@ -236,7 +236,7 @@ abbrev pub Alone : ℕ → Token → Type 0
 Alone k t = (next : Tokens → Tokens) × ((ys : Tokens) → Stops ys → (y : Found) × Parses k (t ∷ next ys) y ys)
 
 -- by a head, the rest of which stands in the first tokens
-by_head : {t : Token} (x : Head) (rest : Tokens → Tokens) → ((zs ys : Tokens) → zs ≡ (after_head 0 x).0 ys → Stops ys → BeginsPrimary (t ∷ rest zs) x zs) → Alone 0 t
+by_head : {t : Token} (x : PrimaryHead) (rest : Tokens → Tokens) → ((zs ys : Tokens) → zs ≡ (after_head 0 x).0 ys → Stops ys → BeginsPrimary (t ∷ rest zs) x zs) → Alone 0 t
 by_head {t} x rest begun =
     let after = after_head 0 x in
     (λ ys. rest (after.0 ys), λ ys stops. let made = after.1 (t ∷ rest (after.0 ys)) ys stops (begun (after.0 ys) ys refl stops) in (made.0, made.1))

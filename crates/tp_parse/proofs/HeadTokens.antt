@@ -8,7 +8,7 @@ use Rattle.tp_parse.specs.declared.mark.Mark.{Mark}
 use Rattle.tp_parse.specs.declared.mark.Mark.TheVariants as m
 use Rattle.tp_parse.specs.declared.mark.Start.{Start}
 use Rattle.tp_parse.specs.declared.mark.Start.TheVariants as s
-use Rattle.tp_parse.specs.declared.head.Head.{Head}
+use Rattle.tp_parse.specs.declared.head.PrimaryHead.{PrimaryHead}
 use Rattle.tp_parse.specs.Marks.{start_of, Tokens, past}
 use Rattle.tp_parse.specs.Grammar as g
 use Rattle.tp_parse.specs.Grammar.{ReadsNames, BeginsPrimary}
@@ -45,7 +45,7 @@ module _ (Q : Tokens → Type 0) (dropped : (ts : Tokens) → Q ts → Q (drop 1
   counter_left : (ts : Tokens) → Q ts → Q (past (drop 1 (drop 1 ts)))
   counter_left ts is = passed (drop 1 (drop 1 ts)) (dropped (drop 1 ts) (dropped ts is))
 
-  pub head_left : {ts rest : Tokens} {x : Head} → BeginsPrimary ts x rest → Q ts → Q rest
+  pub head_left : {ts rest : Tokens} {x : PrimaryHead} → BeginsPrimary ts x rest → Q ts → Q rest
   head_left {ts} (g.number e) is = dropped ts is
   head_left {ts} (g.truth e) is = dropped ts is
   head_left {ts} (g.upper_name e) is = dropped ts is

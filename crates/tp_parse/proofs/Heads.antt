@@ -7,7 +7,7 @@ use Rattle.tp_parse.specs.declared.mark.Mark.{Mark}
 use Rattle.tp_parse.specs.declared.mark.Mark.TheVariants as m
 use Rattle.tp_parse.specs.declared.mark.Start.{Start}
 use Rattle.tp_parse.specs.declared.mark.Start.TheVariants as s
-use Rattle.tp_parse.specs.declared.head.Head.{Head}
+use Rattle.tp_parse.specs.declared.head.PrimaryHead.{PrimaryHead}
 use Rattle.tp_parse.specs.Marks.{same, start_of, comma, Tokens, mark, mark_due, past, first_name}
 use Rattle.tp_parse.specs.Readers as readers
 use Rattle.tp_parse.specs.Readers.{ReadOutcome, Reader, and_then, ◌>>=◌, pure, sees, taken_name, lower, any_name, names, names_from, expect, deepen}
@@ -161,8 +161,8 @@ names_complete {ts} (name_then n e d) = rw (any_name_is ts n) (names_from_comple
 
 -- ---- heads
 
-moved : {ts : Tokens} (x y : Head × Tokens) → fine x ≡ fine y → BeginsPrimary ts x.0 x.1 → BeginsPrimary ts y.0 y.1
-moved {ts} x y e is = subst (λ (q : Head × Tokens). BeginsPrimary ts q.0 q.1) (ok_is x y e) is
+moved : {ts : Tokens} (x y : PrimaryHead × Tokens) → fine x ≡ fine y → BeginsPrimary ts x.0 x.1 → BeginsPrimary ts y.0 y.1
+moved {ts} x y e is = subst (λ (q : PrimaryHead × Tokens). BeginsPrimary ts q.0 q.1) (ok_is x y e) is
 
 counter_then : {B : Type 0} (ts : Tokens) (f : List ℕ → Reader B) (y : B × Tokens) → and_then (counter ts) f ≡ Ok y
     → (mark (drop 1 ts) ≡ m.Lower) × (mark_due (drop 1 (drop 1 ts)) ≡ m.Symbol symbol.Less) × (f (first_name (drop 1 ts)) (past (drop 1 (drop 1 ts))) ≡ Ok y)
@@ -178,7 +178,7 @@ counter_is : (ts : Tokens) → mark (drop 1 ts) ≡ m.Lower → mark_due (drop 1
 unfolding counter
 counter_is ts e d = rw (lower_is (drop 1 ts) e, expect_is (m.Symbol symbol.Less) (drop 1 (drop 1 ts)) d) refl
 
-pub head_sound : (x : Start) (ts : Tokens) (y : Head × Tokens) → start_of (mark ts) ≡ x → head_by x ts ≡ Ok y → BeginsPrimary ts y.0 y.1
+pub head_sound : (x : Start) (ts : Tokens) (y : PrimaryHead × Tokens) → start_of (mark ts) ≡ x → head_by x ts ≡ Ok y → BeginsPrimary ts y.0 y.1
 unfolding name_or_call
 head_sound s.Nothing ts y is e = absurd cc
 head_sound s.Number ts y is e = moved _ y e (number is)
@@ -206,7 +206,7 @@ head_sound s.Exists ts y is e =
 head_at : (ts : Tokens) (x : Start) → start_of (mark ts) ≡ x → head_by (start_of (mark ts)) ts ≡ head_by x ts
 head_at ts x e = ap (λ q. head_by q ts) e
 
-pub head_complete : {ts rest : Tokens} {x : Head} → BeginsPrimary ts x rest → head_by (start_of (mark ts)) ts ≡ Ok (x, rest)
+pub head_complete : {ts rest : Tokens} {x : PrimaryHead} → BeginsPrimary ts x rest → head_by (start_of (mark ts)) ts ≡ Ok (x, rest)
 unfolding name_or_call
 head_complete {ts} (number e) = head_at ts _ e
 head_complete {ts} (truth e) = head_at ts _ e

@@ -15,7 +15,7 @@ use Rattle.tp_parse.specs.declared.mark.Mark.{Mark}
 use Rattle.tp_parse.specs.declared.mark.Mark.TheVariants as m
 use Rattle.tp_parse.specs.declared.mark.Prefix.{Prefix}
 use Rattle.tp_parse.specs.declared.mark.Prefix.TheVariants.{Not, Minus, Next}
-use Rattle.tp_parse.specs.declared.mark.Role.TheVariants.{Ends, Infix}
+use Rattle.tp_parse.specs.declared.mark.TokenRole.TheVariants.{Ends, Infix}
 use Rattle.tp_parse.specs.declared.mark.Start.TheVariants as s
 use Rattle.tp_parse.specs.Marks.{same, prefix_of, level_before, before, prefix_at, role_of, level_of, role_at, start_of, half_mark}
 

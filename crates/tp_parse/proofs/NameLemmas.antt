@@ -17,8 +17,8 @@ use Rattle.tp_parse.specs.declared.head.Listed.{Listed}
 use Rattle.tp_parse.specs.declared.head.Listed.TheVariants as listed
 use Rattle.tp_parse.specs.declared.head.Pair.{Pair}
 use Rattle.tp_parse.specs.declared.head.Pair.TheVariants as pair
-use Rattle.tp_parse.specs.declared.head.Head.{Head}
-use Rattle.tp_parse.specs.declared.head.Head.TheVariants as h
+use Rattle.tp_parse.specs.declared.head.PrimaryHead.{PrimaryHead}
+use Rattle.tp_parse.specs.declared.head.PrimaryHead.TheVariants as h
 use Rattle.tp_parse.specs.Marks.{same, start_of, kind_mark, Tokens, mark, from, first_name, mark_due, past, left_of, without_half, kind_name}
 use Rattle.tp_parse.specs.Grammar.{Found, Operands, atom_kind, listed_kind, enclosed_tree, pair_kind, prefixed_kind, ReadsNames, BeginsPrimary, Parses, Goes, Others, Listing, Parameters, Sentence, Defines, Definitions, IsSource, Accepts}
 use Rattle.tp_parse.specs.Grammar as g
@@ -54,7 +54,7 @@ pair_own pair.Repeat = []
 pair_own (pair.For x) = x ∷ []
 pair_own (pair.Forall x) = x ∷ []
 
-abbrev head_own : Head → List (List ℕ)
+abbrev head_own : PrimaryHead → List (List ℕ)
 head_own (h.Atom x) = kind_names (atom_kind x)
 head_own (h.Listed x) = listed_own x
 head_own (h.Enclosed e) = []
@@ -148,7 +148,7 @@ module _ (P : List ℕ → Type 0) where
   counter_held : (ts : Tokens) → Named ts → mark (drop 1 ts) ≡ m.Lower → All P (first_name (drop 1 ts) ∷ [])
   counter_held ts are e = one (first_name (drop 1 ts)) (name_held (drop 1 ts) (dropped ts are) (inr e))
 
-  own_held : {ts rest : Tokens} {x : Head} → BeginsPrimary ts x rest → Named ts → All P (head_own x)
+  own_held : {ts rest : Tokens} {x : PrimaryHead} → BeginsPrimary ts x rest → Named ts → All P (head_own x)
   own_held {ts} (g.upper_name e) are = starts_held ts are (inl e)
   own_held {ts} (g.lower_name e f) are = starts_held ts are (inr e)
   own_held {ts} (g.call e f) are = starts_held ts are (inr e)
@@ -157,7 +157,7 @@ module _ (P : List ℕ → Type 0) where
   own_held {ts} (g.exists e d f) are = (names_held d (dropped ts are)).0
   own_held _ are = none
 
-  begins_held : {ts rest : Tokens} {x : Head} → BeginsPrimary ts x rest → Named ts → All P (head_own x) × Named rest
+  begins_held : {ts rest : Tokens} {x : PrimaryHead} → BeginsPrimary ts x rest → Named ts → All P (head_own x) × Named rest
   begins_held b are = (own_held b are, head_left Named dropped passed b are)
 
   -- ---- phrases

@@ -8,12 +8,12 @@ use Rattle.tp_tree.specs.Tree.{DefinitionTree, SourceTree}
 use Rattle.tp_parse.specs.declared.mark.Mark.{Mark}
 use Rattle.tp_parse.specs.declared.mark.Mark.TheVariants as m
 use Rattle.tp_parse.specs.declared.mark.Prefix.{Prefix}
-use Rattle.tp_parse.specs.declared.mark.Role.{Role}
-use Rattle.tp_parse.specs.declared.mark.Role.TheVariants.{Ends, Infix, Opens, Joins}
+use Rattle.tp_parse.specs.declared.mark.TokenRole.{TokenRole}
+use Rattle.tp_parse.specs.declared.mark.TokenRole.TheVariants.{Ends, Infix, Opens, Joins}
 use Rattle.tp_parse.specs.declared.mark.Start.{Start}
 use Rattle.tp_parse.specs.declared.mark.Start.TheVariants as s
-use Rattle.tp_parse.specs.declared.head.Head.{Head}
-use Rattle.tp_parse.specs.declared.head.Head.TheVariants as h
+use Rattle.tp_parse.specs.declared.head.PrimaryHead.{PrimaryHead}
+use Rattle.tp_parse.specs.declared.head.PrimaryHead.TheVariants as h
 use Rattle.tp_parse.specs.declared.head.Atom.TheVariants as atom
 use Rattle.tp_parse.specs.declared.head.Listed.TheVariants as listed
 use Rattle.tp_parse.specs.Marks.{same, kind_mark, prefix_at, role_at, start_of, comma, listed_level, listed_close, enclosed_level, enclosed_close, middle, Tokens, mark, from, first_number, first_name, mark_due, half_mark}
@@ -174,7 +174,7 @@ module _ (inner : ℕ → Reader Found) (room : ℕ) (within : (k : ℕ) (ts : T
       both _ _ (parted chop_level (m.Word word.Then) some a) (λ b vs. w.bind _ (within chop_level vs) (λ x zs. w.elsed inner room within at b x zs)) (λ b l r q eq lens pos c.
       both _ _ (alike chop_level _ _ _ pos c) (λ x zs. w.elsed inner room within at b x zs) (λ x l2 r2 q2 eq2 lens2 pos2 c2. elsed at b x pos2 c2))
 
-  primary_by_alike : (at : ℕ) (x : Head) {n : ℕ} {ts us : Tokens} → 0 < n → Agrees n ts us → Alike n ts us (r.primary_by inner room at x ts) (r.primary_by inner room at x us)
+  primary_by_alike : (at : ℕ) (x : PrimaryHead) {n : ℕ} {ts us : Tokens} → 0 < n → Agrees n ts us → Alike n ts us (r.primary_by inner room at x ts) (r.primary_by inner room at x us)
   primary_by_alike at (h.Atom x) some a = stays_alike some a
   primary_by_alike at (h.Listed x) some a = both _ _ (operanded (listed_level x) (listed_close x) some a) (λ all vs. w.stays vs) (λ all l r q eq lens pos b. stays_alike pos b)
   primary_by_alike at (h.Enclosed e) some a = both _ _ (parted (enclosed_level e) (enclosed_close e) some a) (λ x vs. w.stays vs) (λ x l r q eq lens pos b. stays_alike pos b)
@@ -220,7 +220,7 @@ module _ (inner : ℕ → Reader Found) (room : ℕ) (within : (k : ℕ) (ts : T
       both _ _ (othered (k - 1) (m.Word word.And) (length r) (length q) (operands_of (left.tree ∷ []) left.height) (λ z. cc) pos b (omega arith) (omega arith)) (λ all zs. w.stays {x = of_chain at all} zs)
       (λ all l2 r2 q2 eq2 lens2 pos2 b2. stays_alike {x = of_chain at all} pos2 b2))
 
-  turn_by_alike : (k at : ℕ) (left : Found) (role : Role) {n : ℕ} {ts us : Tokens} → 0 < n → Agrees n ts us → Alike n ts us (r.turn_by inner room k at left role ts) (r.turn_by inner room k at left role us)
+  turn_by_alike : (k at : ℕ) (left : Found) (role : TokenRole) {n : ℕ} {ts us : Tokens} → 0 < n → Agrees n ts us → Alike n ts us (r.turn_by inner room k at left role ts) (r.turn_by inner room k at left role us)
   turn_by_alike k at left Ends some a = stays_alike some a
   turn_by_alike k at left (Infix o) some a = both _ _ (operated_alike o at left some a) (λ x vs. w.stays vs) (λ x l r q eq lens pos b. stays_alike pos b)
   turn_by_alike k at left Opens some a = both _ _ (indexed_alike at left some a) (λ x vs. w.stays vs) (λ x l r q eq lens pos b. stays_alike pos b)

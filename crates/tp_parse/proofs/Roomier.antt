@@ -10,12 +10,12 @@ use Rattle.tp_tree.specs.Tree.{DefinitionTree, SourceTree}
 use Rattle.tp_parse.specs.declared.stop.Refusal.TheVariants.{TooDeep}
 use Rattle.tp_parse.specs.declared.mark.Mark.{Mark}
 use Rattle.tp_parse.specs.declared.mark.Mark.TheVariants as m
-use Rattle.tp_parse.specs.declared.mark.Role.{Role}
-use Rattle.tp_parse.specs.declared.mark.Role.TheVariants.{Ends, Infix, Opens, Joins}
+use Rattle.tp_parse.specs.declared.mark.TokenRole.{TokenRole}
+use Rattle.tp_parse.specs.declared.mark.TokenRole.TheVariants.{Ends, Infix, Opens, Joins}
 use Rattle.tp_parse.specs.declared.mark.Start.{Start}
 use Rattle.tp_parse.specs.declared.mark.Start.TheVariants as s
-use Rattle.tp_parse.specs.declared.head.Head.{Head}
-use Rattle.tp_parse.specs.declared.head.Head.TheVariants as h
+use Rattle.tp_parse.specs.declared.head.PrimaryHead.{PrimaryHead}
+use Rattle.tp_parse.specs.declared.head.PrimaryHead.TheVariants as h
 use Rattle.tp_parse.specs.Marks.{before, prefix_at, role_at, start_of, comma, listed_level, listed_close, enclosed_level, enclosed_close, middle, same as is_mark, Tokens, mark, from, mark_due}
 use Rattle.tp_parse.specs.Readers as readers
 use Rattle.tp_parse.specs.Readers.{ReadOutcome, Reader, and_then, ◌>>=◌, pure, refuse, sees, expect, deepen}
@@ -128,7 +128,7 @@ module _ (inner wider : ℕ → Reader Found) (low high : ℕ) (le : low ≤ hig
   unfolding r.choice
   chose at ts = both _ _ (parted chop_level (m.Word word.Then) ts) (λ b us. both _ _ (roomier chop_level us) (λ x vs. elsed at b x vs))
 
-  primary_by_roomier : (at : ℕ) (x : Head) (ts : Tokens) → Roomier (r.primary_by inner low at x ts) (r.primary_by wider high at x ts)
+  primary_by_roomier : (at : ℕ) (x : PrimaryHead) (ts : Tokens) → Roomier (r.primary_by inner low at x ts) (r.primary_by wider high at x ts)
   primary_by_roomier at (h.Atom x) ts = same
   primary_by_roomier at (h.Listed x) ts = both _ _ (operanded (listed_level x) (listed_close x) ts) (λ all us. same)
   primary_by_roomier at (h.Enclosed x) ts = both _ _ (parted (enclosed_level x) (enclosed_close x) ts) (λ a us. same)
@@ -152,7 +152,7 @@ module _ (inner wider : ℕ → Reader Found) (low high : ℕ) (le : low ≤ hig
   unfolding r.chained r.others
   chained_roomier k at left ts = both _ _ (fitted low high left.height ts le) (λ u us. both _ _ (othered (k - 1) (m.Word word.And) (length us) (operands_of (left.tree ∷ []) left.height) us) (λ all vs. same))
 
-  turn_by_roomier : (k at : ℕ) (left : Found) (role : Role) (ts : Tokens) → Roomier (r.turn_by inner low k at left role ts) (r.turn_by wider high k at left role ts)
+  turn_by_roomier : (k at : ℕ) (left : Found) (role : TokenRole) (ts : Tokens) → Roomier (r.turn_by inner low k at left role ts) (r.turn_by wider high k at left role ts)
   turn_by_roomier k at left Ends ts = same
   turn_by_roomier k at left (Infix o) ts = both _ _ (operated_roomier o at left ts) (λ x us. same)
   turn_by_roomier k at left Opens ts = both _ _ (indexed_roomier at left ts) (λ x us. same)

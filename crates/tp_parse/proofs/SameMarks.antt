@@ -10,7 +10,7 @@ use Rattle.tp_parse.specs.declared.mark.Enclosure.{Enclosure}
 use Rattle.tp_parse.specs.declared.head.Atom.{Atom}
 use Rattle.tp_parse.specs.declared.head.Listed.{Listed}
 use Rattle.tp_parse.specs.declared.head.Pair.{Pair}
-use Rattle.tp_parse.specs.declared.head.Head.TheVariants as h
+use Rattle.tp_parse.specs.declared.head.PrimaryHead.TheVariants as h
 use Rattle.tp_parse.specs.Marks.{kind_mark, same, prefix_at, role_at, start_of, comma, listed_level, listed_close, middle, Tokens, mark, from, half_mark, mark_due, without_half, past, left_of}
 use Rattle.tp_parse.specs.Readers.{mark_without_half}
 use Rattle.tp_parse.specs.Grammar.{Found, found, Operands, operands_of, of_infix, of_index, start, ReadsNames, BeginsPrimary, Parses, Goes, Others, Listing, Parameters, Sentence, Defines, Definitions, IsSource}

@@ -2,10 +2,10 @@
 use Rattle.std.proofs.Common.{◌≡◌, ◌≢◌, ℕ, suc, ◌<◌, ◌≤◌, true, false, cond, eqb, List, [], ◌∷◌, length, drop, refl, sym, ◌∙◌, arith}
 use Rattle.tp_parse.specs.declared.mark.Mark.{Mark}
 use Rattle.tp_parse.specs.declared.mark.Mark.TheVariants as m
-use Rattle.tp_parse.specs.declared.mark.Role.{Role}
-use Rattle.tp_parse.specs.declared.mark.Role.TheVariants.{Ends}
+use Rattle.tp_parse.specs.declared.mark.TokenRole.{TokenRole}
+use Rattle.tp_parse.specs.declared.mark.TokenRole.TheVariants.{Ends}
 use Rattle.tp_parse.specs.declared.mark.Start.TheVariants as s
-use Rattle.tp_parse.specs.declared.head.Head.{Head}
+use Rattle.tp_parse.specs.declared.head.PrimaryHead.{PrimaryHead}
 use Rattle.tp_parse.specs.Marks.{role_at, before, start_of, same, Tokens, mark, mark_due, past, left_of}
 use Rattle.tp_parse.specs.Grammar.{Found, Operands, ReadsNames, last_name, name_then, BeginsPrimary, number, truth, upper_name, lower_name, call, bare, form, empty_list, list, enclosure, if, while, repeat, for, forall, exists, Parses, atom, listed, enclosed, if_then, if_else, paired, quantified, prefixed, level, Goes, ends, left, single, right, indexed, joins, Others, no_more, one_more, Listing, no_operands, operands}
 use Rattle.tp_parse.proofs.Marks.{prefix_level_is, start_plain, BeginsNone}
@@ -53,7 +53,7 @@ pub role_end : (k : ℕ) → role_at k m.End ≡ Ends
 unfolding role_at
 role_end k = elim (eqb 0 k) as (λ b. cond b Ends Ends ≡ Ends) [ true ↦ refl | false ↦ refl ]
 
-pub role_taken : (k : ℕ) (ts : Tokens) (r : Role) → role_at k (mark ts) ≡ r → r ≢ Ends → length (drop 1 ts) < length ts
+pub role_taken : (k : ℕ) (ts : Tokens) (r : TokenRole) → role_at k (mark ts) ≡ r → r ≢ Ends → length (drop 1 ts) < length ts
 unfolding mark
 role_taken k [] r e some = absurd (some (sym e ∙ role_end k))
 role_taken k (t ∷ ts) r e some = omega arith
@@ -62,7 +62,7 @@ pub names_shorter : {ts rest : Tokens} {xs : List (List ℕ)} → ReadsNames ts 
 names_shorter {ts} (last_name n e) = dropped ts
 names_shorter {ts} (name_then n e d) = omega (arith, dropped ts, dropped (drop 1 ts), names_shorter d)
 
-begins_shorter : {ts rest : Tokens} {x : Head} → BeginsPrimary ts x rest → length rest ≤ length ts
+begins_shorter : {ts rest : Tokens} {x : PrimaryHead} → BeginsPrimary ts x rest → length rest ≤ length ts
 begins_shorter {ts} (number e) = dropped ts
 begins_shorter {ts} (truth e) = dropped ts
 begins_shorter {ts} (upper_name e) = dropped ts
@@ -110,7 +110,7 @@ mutual
 
 -- ---- what a phrase begins with
 
-pub begins_start : {ts rest : Tokens} {x : Head} → BeginsPrimary ts x rest → start_of (mark ts) ≢ s.Nothing
+pub begins_start : {ts rest : Tokens} {x : PrimaryHead} → BeginsPrimary ts x rest → start_of (mark ts) ≢ s.Nothing
 begins_start (number e) nothing = absurd cc
 begins_start (truth e) nothing = absurd cc
 begins_start (upper_name e) nothing = absurd cc

@@ -9,10 +9,10 @@ use Rattle.tp_tree.specs.declared.operator.Grouping.TheVariants.{Left, Single, R
 use Rattle.tp_tree.specs.Levels.{chop_level, grouping, level_right_of, right_level}
 use Rattle.tp_parse.specs.declared.mark.Mark.{Mark}
 use Rattle.tp_parse.specs.declared.mark.Mark.TheVariants as m
-use Rattle.tp_parse.specs.declared.mark.Role.{Role}
-use Rattle.tp_parse.specs.declared.mark.Role.TheVariants.{Ends, Infix, Opens, Joins}
-use Rattle.tp_parse.specs.declared.head.Head.{Head}
-use Rattle.tp_parse.specs.declared.head.Head.TheVariants as h
+use Rattle.tp_parse.specs.declared.mark.TokenRole.{TokenRole}
+use Rattle.tp_parse.specs.declared.mark.TokenRole.TheVariants.{Ends, Infix, Opens, Joins}
+use Rattle.tp_parse.specs.declared.head.PrimaryHead.{PrimaryHead}
+use Rattle.tp_parse.specs.declared.head.PrimaryHead.TheVariants as h
 use Rattle.tp_parse.specs.Marks.{role_at, prefix_at, same, start_of, comma, listed_level, listed_close, enclosed_level, enclosed_close, middle, Tokens, mark, from, mark_due, past}
 use Rattle.tp_parse.specs.Readers.{Reader, and_then, ◌>>=◌, pure, sees}
 use Rattle.tp_parse.specs.Head.{head_by}
@@ -116,7 +116,7 @@ module _ (inner : ℕ → Reader Found) (room : ℕ) (sound : (k : ℕ) (ts : To
             moved (of_choice (from ts) b.0.0 d.0.0, d.0.1) p w.1 (if_then begins b.1.0 b.2 yes.0 (same_not _ _ w.0), omega (arith, b.1.1, yes.1))
       ]
 
-  primary_by_sound : (x : Head) (ts mid : Tokens) (p : Found × Tokens) → BeginsPrimary ts x mid → r.primary_by inner room (from ts) x mid ≡ Ok p → Is (suc room) 0 ts p
+  primary_by_sound : (x : PrimaryHead) (ts mid : Tokens) (p : Found × Tokens) → BeginsPrimary ts x mid → r.primary_by inner room (from ts) x mid ≡ Ok p → Is (suc room) 0 ts p
   primary_by_sound (h.Atom x) ts mid p begins e = moved (of_atom (from ts) x, mid) p e (atom begins, omega arith)
   primary_by_sound (h.Listed x) ts mid p begins e =
       let a = bind_ok (r.operands inner room (listed_level x) (listed_close x) mid) _ p e in
@@ -205,7 +205,7 @@ module _ (inner : ℕ → Reader Found) (room : ℕ) (sound : (k : ℕ) (ts : To
         low = λ q. omega (arith, f.0, are.3);
       })
 
-  turn_by_sound : (k at : ℕ) (a : Found) (role : Role) (ts : Tokens) (p : (Found × Bool) × Tokens) → role_at k (mark ts) ≡ role → r.turn_by inner room k at a role ts ≡ Ok p → HasTurned k at a ts p
+  turn_by_sound : (k at : ℕ) (a : Found) (role : TokenRole) (ts : Tokens) (p : (Found × Bool) × Tokens) → role_at k (mark ts) ≡ role → r.turn_by inner room k at a role ts ≡ Ok p → HasTurned k at a ts p
   turn_by_sound k at a Ends ts p is e =
       subst (HasTurned k at a ts) (ok_is ((a, false), ts) p e) (record { stops = λ q. ends is; goes = λ q. absurd cc; fewer = λ q. absurd cc; low = λ q. q })
   turn_by_sound k at a (Infix o) ts p is e = operated_sound k o at a ts p is e

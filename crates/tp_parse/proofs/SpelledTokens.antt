@@ -9,7 +9,7 @@ use Rattle.tp_tree.specs.Tree.{PhraseTree}
 use Rattle.tp_tree.specs.Places.{unplaced}
 use Rattle.tp_parse.specs.declared.mark.Mark.{Mark}
 use Rattle.tp_parse.specs.declared.mark.Mark.TheVariants as m
-use Rattle.tp_parse.specs.declared.mark.Role.TheVariants.{Ends}
+use Rattle.tp_parse.specs.declared.mark.TokenRole.TheVariants.{Ends}
 use Rattle.tp_parse.specs.declared.mark.Start.TheVariants as s
 use Rattle.tp_parse.specs.Marks.{kind_mark, role_of, role_at, level_of, start_of, Tokens, mark, from, first_number, first_name, kind_number, kind_name, mark_due, half_mark, past, left_of, without_half}
 use Rattle.tp_parse.specs.Grammar.{Found, Parses, level, Goes, ends, open_round}

@@ -7,7 +7,7 @@ use Rattle.tp_lex.specs.declared.token.Symbol.TheVariants as symbol
 use Rattle.tp_tree.specs.Tree.{PhraseTree, PhraseTrees, phrases_of, DefinitionTree, SourceTree}
 use Rattle.tp_parse.specs.declared.mark.Mark.{Mark}
 use Rattle.tp_parse.specs.declared.mark.Mark.TheVariants as m
-use Rattle.tp_parse.specs.declared.mark.Role.TheVariants.{Ends, Joins}
+use Rattle.tp_parse.specs.declared.mark.TokenRole.TheVariants.{Ends, Joins}
 use Rattle.tp_parse.specs.declared.mark.Prefix.{Prefix}
 use Rattle.tp_parse.specs.declared.mark.Prefix.TheVariants as prefix
 use Rattle.tp_parse.specs.declared.mark.Enclosure.{Enclosure}
@@ -18,7 +18,7 @@ use Rattle.tp_parse.specs.declared.head.Listed.{Listed}
 use Rattle.tp_parse.specs.declared.head.Listed.TheVariants as listed
 use Rattle.tp_parse.specs.declared.head.Pair.{Pair}
 use Rattle.tp_parse.specs.declared.head.Pair.TheVariants as pair
-use Rattle.tp_parse.specs.declared.head.Head.TheVariants as h
+use Rattle.tp_parse.specs.declared.head.PrimaryHead.TheVariants as h
 use Rattle.tp_parse.specs.Marks.{role_of, role_at, level_of, Tokens, mark, from}
 use Rattle.tp_parse.specs.Grammar.{Found, Operands, atom_kind, listed_kind, enclosed_tree, pair_kind, prefixed_kind, ReadsNames, BeginsPrimary, Parses, Goes, Others, Listing, Sentence, Defines, Definitions, IsSource, Accepts}
 use Rattle.tp_parse.specs.Grammar as g

@@ -2,7 +2,7 @@
 use Rattle.std.proofs.Common.{◌≡◌, ℕ, zero, suc, ◌+◌, ◌-◌, ◌<◌, ◌≤◌, refl, ap, subst, ◌∙◌, arith}
 use Rattle.std.proofs.Common.{Ok, Err, Some, None, [], ◌∷◌}
 use Rattle.tp_parse.specs.Marks.{before, prefix_at, role_at, Tokens, mark, from}
-use Rattle.tp_parse.specs.declared.mark.Role.TheVariants.{Ends}
+use Rattle.tp_parse.specs.declared.mark.TokenRole.TheVariants.{Ends}
 use Rattle.tp_parse.specs.declared.stop.Refusal.{Refusal}
 use Rattle.tp_parse.specs.Readers.{Reader}
 use Rattle.tp_parse.specs.Grammar.{Found}

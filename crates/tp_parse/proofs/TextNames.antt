@@ -14,7 +14,7 @@ use Rattle.tp_lex.specs.Bytes.{is_name_byte, spelled_value}
 use Rattle.tp_lex.specs.Pieces as piece
 use Rattle.tp_lex.specs.Pieces.{IsName, BeginsPiece}
 use Rattle.tp_lex.specs.Names.{IsNameText}
-use Rattle.tp_lex.specs.Tokens.{ReadsTokens, Ending, Whole, whole, gap, lexeme, fails}
+use Rattle.tp_lex.specs.Tokens.{ReadsTokens, ReadingEnd, Whole, whole, gap, lexeme, fails}
 use Rattle.tp_lex.proofs.PieceLemmas.{some_name}
 use Rattle.tp_lex.proofs.LawLemmas.{first_stays}
 use Rattle.tp_tree.specs.Tree.{PhraseTree, PhraseTrees, phrases_of, DefinitionTree, SourceTree}
@@ -28,8 +28,8 @@ use Rattle.tp_parse.specs.declared.head.Listed.{Listed}
 use Rattle.tp_parse.specs.declared.head.Listed.TheVariants as listed
 use Rattle.tp_parse.specs.declared.head.Pair.{Pair}
 use Rattle.tp_parse.specs.declared.head.Pair.TheVariants as pair
-use Rattle.tp_parse.specs.declared.head.Head.{Head}
-use Rattle.tp_parse.specs.declared.head.Head.TheVariants as h
+use Rattle.tp_parse.specs.declared.head.PrimaryHead.{PrimaryHead}
+use Rattle.tp_parse.specs.declared.head.PrimaryHead.TheVariants as h
 use Rattle.tp_parse.specs.Marks.{same, start_of, kind_mark, Tokens, mark, from, first_name, first_number, mark_due, past, left_of, without_half, kind_name, kind_number}
 use Rattle.tp_parse.specs.Grammar.{Found, Operands, atom_kind, listed_kind, enclosed_tree, pair_kind, prefixed_kind, ReadsNames, BeginsPrimary, Parses, Goes, Others, Listing, Parameters, Sentence, Defines, Definitions, IsSource, Accepts}
 use Rattle.tp_parse.specs.Grammar as g
@@ -93,7 +93,7 @@ piece_text z _ (piece.open_comment opens nowhere) = tt
 piece_text z _ (piece.large_number are high) = tt
 piece_text z _ (piece.long_name is long) = tt
 
-token_texts : (bytes : List ℕ) (at : ℕ) (ts : List Token) (end : Ending) → ReadsTokens bytes at ts end → AreTokenTexts ts
+token_texts : (bytes : List ℕ) (at : ℕ) (ts : List Token) (end : ReadingEnd) → ReadsTokens bytes at ts end → AreTokenTexts ts
 token_texts bytes at _ _ (whole e) = tt
 token_texts bytes at ts end (gap {n = n} is r) = token_texts bytes (at + n) ts end r
 token_texts bytes at _ end (lexeme {n = n} {ts = ts} is r) = (piece_text (drop at bytes) _ is, token_texts bytes (at + n) ts end r)
@@ -171,7 +171,7 @@ IsPairText pair.Repeat = Unit {0}
 IsPairText (pair.For x) = IsLowerText x
 IsPairText (pair.Forall x) = IsLowerText x
 
-abbrev IsHeadText : Head → Type 0
+abbrev IsHeadText : PrimaryHead → Type 0
 IsHeadText (h.Atom x) = IsSpellableKind (atom_kind x)
 IsHeadText (h.Listed x) = IsListedText x
 IsHeadText (h.Enclosed e) = Unit {0}
@@ -200,7 +200,7 @@ prefixed_text prefix.Not a w = w
 prefixed_text prefix.Minus a w = w
 prefixed_text prefix.Next a w = w
 
-own_text : {ts rest : Tokens} {x : Head} → BeginsPrimary ts x rest → AreTokenTexts ts → IsHeadText x
+own_text : {ts rest : Tokens} {x : PrimaryHead} → BeginsPrimary ts x rest → AreTokenTexts ts → IsHeadText x
 own_text {ts} (g.number e) are = start_text ts are m.Number (ap mark_of_start e)
 own_text {ts} (g.upper_name e) are = start_text ts are m.Upper (ap mark_of_start e)
 own_text {ts} (g.lower_name e f) are = (start_text ts are m.Lower (ap mark_of_start e)).variable
@@ -210,7 +210,7 @@ own_text {ts} (g.forall e f l) are = text_of (drop 1 ts) (dropped ts are) m.Lowe
 own_text {ts} (g.exists e d f) are = (names_of d (dropped ts are)).0
 own_text _ are = tt
 
-head_text : {ts rest : Tokens} {x : Head} → BeginsPrimary ts x rest → AreTokenTexts ts → IsHeadText x × AreTokenTexts rest
+head_text : {ts rest : Tokens} {x : PrimaryHead} → BeginsPrimary ts x rest → AreTokenTexts ts → IsHeadText x × AreTokenTexts rest
 head_text b are = (own_text b are, head_left AreTokenTexts dropped passed b are)
 
 -- ---- phrases

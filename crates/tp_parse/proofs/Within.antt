@@ -9,12 +9,12 @@ use Rattle.tp_parse.specs.declared.stop.Refusal.{Refusal}
 use Rattle.tp_parse.specs.declared.stop.Refusal.TheVariants.{Unexpected, Unfinished, TooDeep, NoMemory}
 use Rattle.tp_parse.specs.declared.mark.Mark.{Mark}
 use Rattle.tp_parse.specs.declared.mark.Mark.TheVariants as m
-use Rattle.tp_parse.specs.declared.mark.Role.{Role}
-use Rattle.tp_parse.specs.declared.mark.Role.TheVariants.{Ends, Infix, Opens, Joins}
+use Rattle.tp_parse.specs.declared.mark.TokenRole.{TokenRole}
+use Rattle.tp_parse.specs.declared.mark.TokenRole.TheVariants.{Ends, Infix, Opens, Joins}
 use Rattle.tp_parse.specs.declared.mark.Start.{Start}
 use Rattle.tp_parse.specs.declared.mark.Start.TheVariants as s
-use Rattle.tp_parse.specs.declared.head.Head.{Head}
-use Rattle.tp_parse.specs.declared.head.Head.TheVariants as h
+use Rattle.tp_parse.specs.declared.head.PrimaryHead.{PrimaryHead}
+use Rattle.tp_parse.specs.declared.head.PrimaryHead.TheVariants as h
 use Rattle.tp_parse.specs.declared.head.Atom.TheVariants as atom
 use Rattle.tp_parse.specs.declared.head.Listed.TheVariants as listed
 use Rattle.tp_parse.specs.Marks.{same, prefix_at, role_at, start_of, comma, listed_level, listed_close, enclosed_level, enclosed_close, middle, Tokens, mark, from, mark_due}
@@ -203,7 +203,7 @@ module _ (inner : ℕ → Reader Found) (room : ℕ) (within : (k : ℕ) (ts : T
   unfolding r.choice
   chosen at ts = bind _ (parted chop_level (m.Word word.Then) ts) (λ b us. bind _ (within chop_level us) (λ x vs. elsed at b x vs))
 
-  pub primary_by_within : (at : ℕ) (x : Head) (ts : Tokens) → Within ts (r.primary_by inner room at x ts)
+  pub primary_by_within : (at : ℕ) (x : PrimaryHead) (ts : Tokens) → Within ts (r.primary_by inner room at x ts)
   primary_by_within at (h.Atom a) ts = stays ts
   primary_by_within at (h.Listed l) ts = bind _ (operanded (listed_level l) (listed_close l) ts) (λ all us. stays us)
   primary_by_within at (h.Enclosed e) ts = bind _ (parted (enclosed_level e) (enclosed_close e) ts) (λ x us. stays us)
@@ -228,7 +228,7 @@ module _ (inner : ℕ → Reader Found) (room : ℕ) (within : (k : ℕ) (ts : T
   chained_within k at left ts some =
       bind _ (fitted room left.height ts some) (λ u us. bind _ (othered (k - 1) (m.Word word.And) (length us) (operands_of (left.tree ∷ []) left.height) us) (λ all vs. stays vs))
 
-  pub turn_by_within : (k at : ℕ) (left : Found) (role : Role) (ts : Tokens) → (role ≢ Ends → 0 < length ts) → Within ts (r.turn_by inner room k at left role ts)
+  pub turn_by_within : (k at : ℕ) (left : Found) (role : TokenRole) (ts : Tokens) → (role ≢ Ends → 0 < length ts) → Within ts (r.turn_by inner room k at left role ts)
   turn_by_within k at left Ends ts some = stays ts
   turn_by_within k at left (Infix o) ts some = bind _ (operated_within o at left ts (some (λ q. cc))) (λ x us. stays us)
   turn_by_within k at left Opens ts some = bind _ (indexed_within at left ts (some (λ q. cc))) (λ x us. stays us)

@@ -23,11 +23,11 @@ use Rattle.tp_tree.specs.declared.operator.Bare.{Bare}
 use Rattle.tp_tree.specs.declared.operator.Form.{Form}
 use Rattle.tp_parse.specs.declared.mark.Mark.{Mark}
 use Rattle.tp_parse.specs.declared.mark.Mark.TheVariants as m
-use Rattle.tp_parse.specs.declared.mark.Role.TheVariants.{Ends, Infix, Opens, Joins}
+use Rattle.tp_parse.specs.declared.mark.TokenRole.TheVariants.{Ends, Infix, Opens, Joins}
 use Rattle.tp_parse.specs.declared.mark.Start.{Start}
 use Rattle.tp_parse.specs.declared.mark.Start.TheVariants as s
-use Rattle.tp_parse.specs.declared.head.Head.{Head}
-use Rattle.tp_parse.specs.declared.head.Head.TheVariants as h
+use Rattle.tp_parse.specs.declared.head.PrimaryHead.{PrimaryHead}
+use Rattle.tp_parse.specs.declared.head.PrimaryHead.TheVariants as h
 use Rattle.tp_parse.specs.Marks.{prefix_at, role_at, start_of, comma, listed_level, listed_close, enclosed_level, enclosed_close, middle, Tokens, mark, from, first_name, mark_due, past}
 use Rattle.tp_parse.specs.Marks as marks
 
@@ -155,7 +155,7 @@ pub data ReadsNames : Tokens → List (List ℕ) → Tokens → Type 0 where
 
 -- what a primary begins with: itself, where it has no operands, and else all up to its first
 -- operand
-pub data BeginsPrimary : Tokens → Head → Tokens → Type 0 where
+pub data BeginsPrimary : Tokens → PrimaryHead → Tokens → Type 0 where
   number : {ts : Tokens} → start ts ≡ s.Number
       → BeginsPrimary ts (h.Atom (a.Number (marks.first_number ts))) (drop 1 ts)
   truth : {ts : Tokens} {b : _} → start ts ≡ s.Truth b

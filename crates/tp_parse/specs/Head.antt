@@ -5,8 +5,8 @@ use Rattle.tp_parse.specs.declared.mark.Mark.{Mark}
 use Rattle.tp_parse.specs.declared.mark.Mark.TheVariants as m
 use Rattle.tp_parse.specs.declared.mark.Start.{Start}
 use Rattle.tp_parse.specs.declared.mark.Start.TheVariants as s
-use Rattle.tp_parse.specs.declared.head.Head.{Head}
-use Rattle.tp_parse.specs.declared.head.Head.TheVariants.{Atom, Listed, Enclosed, If, Paired, Exists}
+use Rattle.tp_parse.specs.declared.head.PrimaryHead.{PrimaryHead}
+use Rattle.tp_parse.specs.declared.head.PrimaryHead.TheVariants.{Atom, Listed, Enclosed, If, Paired, Exists}
 use Rattle.tp_parse.specs.declared.head.Atom.TheVariants as atom
 use Rattle.tp_parse.specs.declared.head.Listed.TheVariants as listed
 use Rattle.tp_parse.specs.declared.head.Pair.TheVariants as pair
@@ -15,10 +15,10 @@ use Rattle.tp_parse.specs.declared.stop.Refusal.TheVariants.{TooDeep}
 use Rattle.tp_parse.specs.Marks.{before, start_of, Tokens, mark, first_number, first_name, past}
 use Rattle.tp_parse.specs.Readers.{Reader, ◌>>=◌, pure, refusal, refuse, sees, take, expect, taken_name, lower, names, deepen}
 
-abbrev pub head_taken : Head → Reader Head
+abbrev pub head_taken : PrimaryHead → Reader PrimaryHead
 head_taken h = λ ts. Ok (h, drop 1 ts)
 
-unfoldable pub name_or_call : Reader Head
+unfoldable pub name_or_call : Reader PrimaryHead
 name_or_call = do
   x ← taken_name
   λ ts. if sees (m.Symbol symbol.OpenRound) ts then Ok (Listed (listed.Call x), drop 1 ts)
@@ -32,7 +32,7 @@ counter = do
   _less ← expect (m.Symbol symbol.Less)
   pure x
 
-abbrev pub head_by : Start → Reader Head
+abbrev pub head_by : Start → Reader PrimaryHead
 head_by s.Nothing = refuse
 head_by s.Number = λ ts. Ok (Atom (atom.Number (first_number ts)), drop 1 ts)
 head_by s.Name = λ ts. Ok (Atom (atom.Name (first_name ts)), drop 1 ts)

@@ -1,5 +1,5 @@
--- What a token is without its text, and what it does in a phrase; the first of some tokens, and what
--- is left of them behind it. The levels of operators, and how they group, are those of tp_tree.
+-- What a token is without its text, and what it does in a phrase; the first of some tokens, and
+-- what is left of them behind it. The levels of operators, and how they group, are those of tp_tree.
 use Rattle.std.specs.Prelude.{ℕ, Bool, true, false, ◌==◌, if◌then◌else◌, Option, Some, None, ◌-◌, ℤ, pos, List, [], ◌∷◌, drop}
 use denote.Enum.Bare.{sameb}
 use Rattle.tp_lex.specs.declared.token.Kind.{Kind}
@@ -16,8 +16,8 @@ use Rattle.tp_tree.specs.declared.operator.Form.TheVariants as form
 use Rattle.tp_tree.specs.Levels.{index_level, prefix_level, sum_level, not_level, and_level, chop_level, op_level}
 use Rattle.tp_parse.specs.declared.mark.Mark.{Mark}
 use Rattle.tp_parse.specs.declared.mark.Mark.TheVariants as m
-use Rattle.tp_parse.specs.declared.mark.Role.{Role}
-use Rattle.tp_parse.specs.declared.mark.Role.TheVariants.{Ends, Infix, Opens, Joins}
+use Rattle.tp_parse.specs.declared.mark.TokenRole.{TokenRole}
+use Rattle.tp_parse.specs.declared.mark.TokenRole.TheVariants.{Ends, Infix, Opens, Joins}
 use Rattle.tp_parse.specs.declared.mark.Prefix.{Prefix}
 use Rattle.tp_parse.specs.declared.mark.Prefix.TheVariants.{Not, Minus, Next}
 use Rattle.tp_parse.specs.declared.mark.Enclosure.{Enclosure}
@@ -83,7 +83,7 @@ unfoldable pub prefix_at : ℕ → Mark → Option Prefix
 prefix_at level mark = if before mark == level then prefix_of mark else None
 
 -- what a token does after an operand
-abbrev pub role_of : Mark → Role
+abbrev pub role_of : Mark → TokenRole
 role_of (m.Symbol symbol.Semicolon) = Infix op.Chop
 role_of (m.Word word.Proj) = Infix op.Proj
 role_of (m.Word word.Or) = Infix op.Or
@@ -105,14 +105,14 @@ role_of (m.Word word.Mod) = Infix op.Mod
 role_of (m.Symbol symbol.OpenSquare) = Opens
 role_of _ = Ends
 
-abbrev pub level_of : Role → ℕ
+abbrev pub level_of : TokenRole → ℕ
 level_of Ends = 0
 level_of (Infix o) = op_level o
 level_of Opens = index_level
 level_of Joins = and_level
 
 -- what a token does after an operand at this level
-unfoldable pub role_at : ℕ → Mark → Role
+unfoldable pub role_at : ℕ → Mark → TokenRole
 role_at level mark = if level_of (role_of mark) == level then role_of mark else Ends
 
 abbrev pub word_start : Word → Start

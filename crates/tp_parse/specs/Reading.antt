@@ -9,10 +9,10 @@ use Rattle.tp_tree.specs.Levels.{chop_level, grouping, right_level}
 use Rattle.tp_parse.specs.declared.mark.Mark.{Mark}
 use Rattle.tp_parse.specs.declared.mark.Mark.TheVariants as m
 use Rattle.tp_parse.specs.declared.mark.Prefix.{Prefix}
-use Rattle.tp_parse.specs.declared.mark.Role.{Role}
-use Rattle.tp_parse.specs.declared.mark.Role.TheVariants.{Ends, Infix, Opens, Joins}
-use Rattle.tp_parse.specs.declared.head.Head.{Head}
-use Rattle.tp_parse.specs.declared.head.Head.TheVariants as h
+use Rattle.tp_parse.specs.declared.mark.TokenRole.{TokenRole}
+use Rattle.tp_parse.specs.declared.mark.TokenRole.TheVariants.{Ends, Infix, Opens, Joins}
+use Rattle.tp_parse.specs.declared.head.PrimaryHead.{PrimaryHead}
+use Rattle.tp_parse.specs.declared.head.PrimaryHead.TheVariants as h
 use Rattle.tp_parse.specs.Marks.{before, prefix_at, role_at, start_of, same, comma, listed_level, listed_close, enclosed_level, enclosed_close, middle, mark, from, mark_due, past}
 use Rattle.tp_parse.specs.Readers.{Reader, ◌>>=◌, pure, too_deep, sees, take, expect, deepen}
 use Rattle.tp_parse.specs.Head.{head_by, admit, unfit}
@@ -77,7 +77,7 @@ module _ (inner : ℕ → Reader Found) (room : ℕ) where
     else_part at b p
 
   -- what follows a head
-  abbrev pub primary_by : ℕ → Head → Reader Found
+  abbrev pub primary_by : ℕ → PrimaryHead → Reader Found
   primary_by at (h.Atom a) = pure (of_atom at a)
   primary_by at (h.Listed l) = do
     all ← operands (listed_level l) (listed_close l)
@@ -121,7 +121,7 @@ module _ (inner : ℕ → Reader Found) (room : ℕ) where
     pure (of_chain at all)
 
   -- what goes on with an operand, and whether more may
-  abbrev pub turn_by : ℕ → ℕ → Found → Role → Reader (Found × Bool)
+  abbrev pub turn_by : ℕ → ℕ → Found → TokenRole → Reader (Found × Bool)
   turn_by k at left Ends = pure (left, false)
   turn_by k at left (Infix o) = operated o at left >>= λ x. pure (x, goes_on (grouping o))
   turn_by k at left Opens = indexed at left >>= λ x. pure (x, true)

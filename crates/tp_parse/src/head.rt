@@ -32,7 +32,7 @@ pub enum Pair {
 
 /// What a primary begins with; an atom is there whole.
 #[derive(Drop)]
-pub enum Head {
+pub enum PrimaryHead {
     Atom(Atom),
     Listed(Listed),
     Enclosed(Enclosure),

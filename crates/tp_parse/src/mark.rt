@@ -15,7 +15,7 @@ pub enum Mark {
 
 /// What a token does after an operand: nothing, or it is an operator, the `[` of an index, or the `and` of a chain.
 #[derive(Clone, Copy)]
-pub enum Role {
+pub enum TokenRole {
     Ends,
     Infix(Op),
     Opens,

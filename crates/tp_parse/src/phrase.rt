@@ -5,11 +5,11 @@ ghost use Rattle.tp_parse.specs.Marks as marks;
 ghost use Rattle.tp_parse.specs.Readers.{ReturnsReading};
 ghost use Rattle.tp_parse.specs.Seen.{seen, turn_seen, all_seen};
 ghost use Rattle.tp_parse.specs.Reading as spec;
-ghost use Rattle.tp_parse.specs.declared.head.Head.TheVariants.{Paired};
-ghost use Rattle.tp_parse.specs.declared.mark.Role.TheVariants.{Ends};
+ghost use Rattle.tp_parse.specs.declared.head.PrimaryHead.TheVariants.{Paired};
+ghost use Rattle.tp_parse.specs.declared.mark.TokenRole.TheVariants.{Ends};
 
-use crate::head::{Head, Pair};
-use crate::mark::{Enclosure, Mark, Prefix, Role};
+use crate::head::{Pair, PrimaryHead};
+use crate::mark::{Enclosure, Mark, Prefix, TokenRole};
 use crate::operands::Operands;
 use crate::parser::Parser;
 use crate::phrases::{
@@ -105,21 +105,21 @@ impl Parser<'_> {
         alloc: Global,
         room: u8,
         at: u32,
-        head: Head,
+        head: PrimaryHead,
     ) -> Result<Measured, Refusal>
         ensures reads { ReturnsReading seen (spec.primary_by (spec.read room) room at head self.old)
             result self.new }
         ensures low { IfOk result (λ r. r.height ≤ room + 1) }
     {
         match head {
-            Head::Atom(atom) => Ok(of_atom(alloc, at, atom)),
-            Head::Listed(listed) => {
+            PrimaryHead::Atom(atom) => Ok(of_atom(alloc, at, atom)),
+            PrimaryHead::Listed(listed) => {
                 let level = listed_level(&listed);
                 let close = listed_close(&listed);
                 let all = self.operands(alloc, level, close, room)?;
                 Ok(of_operands(at, listed, all))
             }
-            Head::Enclosed(enclosure) => {
+            PrimaryHead::Enclosed(enclosure) => {
                 let level = enclosed_level(enclosure);
                 let operand = self.part(alloc, level, enclosed_close(enclosure), room)?;
                 match enclosure {
@@ -127,9 +127,9 @@ impl Parser<'_> {
                     Enclosure::Round | Enclosure::Curly => Ok(raised(operand)),
                 }
             }
-            Head::If => self.choice(alloc, room, at),
-            Head::Paired(pair) => self.paired(alloc, room, at, pair),
-            Head::Exists(names) => {
+            PrimaryHead::If => self.choice(alloc, room, at),
+            PrimaryHead::Paired(pair) => self.paired(alloc, room, at, pair),
+            PrimaryHead::Exists(names) => {
                 let operand = self.phrase(alloc, CHOP, room)?;
                 of_one(alloc, at, OneOperand::Exists(names), operand)
             }
@@ -305,16 +305,16 @@ impl Parser<'_> {
         ensures low { IfOk result (λ r. r.0.height ≤ room + 1) }
     {
         match role_at(level, self.mark()) {
-            Role::Ends => Ok((left, false)),
-            Role::Infix(op) => {
+            TokenRole::Ends => Ok((left, false)),
+            TokenRole::Infix(op) => {
                 let whole = self.operated(alloc, op, room, at, left)?;
                 Ok((whole, goes_on(grouping(op))))
             }
-            Role::Opens => {
+            TokenRole::Opens => {
                 let whole = self.indexed(alloc, room, at, left)?;
                 Ok((whole, true))
             }
-            Role::Joins => {
+            TokenRole::Joins => {
                 let whole = self.chained(alloc, level, room, at, left)?;
                 Ok((whole, false))
             }
@@ -405,12 +405,12 @@ fn start_level(level: u8, mark: Mark) -> u8
 }
 
 /// Whether no operator of the level is there.
-fn ends(role: Role) -> bool
+fn ends(role: TokenRole) -> bool
     ensures { IsTrue result ↔ role ≡ Ends }
 {
     match role {
-        Role::Ends => true,
-        Role::Infix(_) | Role::Opens | Role::Joins => false,
+        TokenRole::Ends => true,
+        TokenRole::Infix(_) | TokenRole::Opens | TokenRole::Joins => false,
     }
 }
 

@@ -4,7 +4,7 @@ ghost use Rattle.tp_parse.specs.Marks as marks;
 ghost use Rattle.tp_parse.specs.Head as spec;
 ghost use Rattle.tp_parse.specs.Readers.{ReturnsReading};
 
-use crate::head::{Atom, Head, Listed, Pair};
+use crate::head::{Atom, Listed, Pair, PrimaryHead};
 use crate::mark::{Enclosure, Mark, Start};
 use crate::parser::Parser;
 use crate::role::{before, start_of};
@@ -16,46 +16,46 @@ use tp_value::Text;
 
 impl Parser<'_> {
     /// Takes what a primary begins with, where the next token begins it so.
-    pub fn head(&mut self, alloc: Global, start: Start) -> Result<Head, Refusal>
+    pub fn head(&mut self, alloc: Global, start: Start) -> Result<PrimaryHead, Refusal>
         ensures { ReturnsReading (λ h. h) (spec.head_by start self.old) result self.new }
     {
         match start {
             Start::Nothing => Err(self.refusal()),
             Start::Number => {
                 let value = self.number();
-                Ok(self.taken(Head::Atom(Atom::Number(value))))
+                Ok(self.taken(PrimaryHead::Atom(Atom::Number(value))))
             }
-            Start::Name => Ok(Head::Atom(Atom::Name(self.taken_name(alloc)?))),
+            Start::Name => Ok(PrimaryHead::Atom(Atom::Name(self.taken_name(alloc)?))),
             Start::NameOrCall => self.name_or_call(alloc),
-            Start::Truth(value) => Ok(self.taken(Head::Atom(Atom::Truth(value)))),
-            Start::Bare(word) => Ok(self.taken(Head::Atom(Atom::Bare(word)))),
-            Start::EmptyList => Ok(self.taken(Head::Atom(Atom::EmptyList))),
+            Start::Truth(value) => Ok(self.taken(PrimaryHead::Atom(Atom::Truth(value)))),
+            Start::Bare(word) => Ok(self.taken(PrimaryHead::Atom(Atom::Bare(word)))),
+            Start::EmptyList => Ok(self.taken(PrimaryHead::Atom(Atom::EmptyList))),
             Start::List => {
                 self.pass();
-                Ok(Head::Listed(Listed::List))
+                Ok(PrimaryHead::Listed(Listed::List))
             }
             Start::Form(form) => {
                 self.take();
                 self.expect(Mark::Symbol(Symbol::OpenRound))?;
-                Ok(Head::Listed(Listed::Form(form)))
+                Ok(PrimaryHead::Listed(Listed::Form(form)))
             }
-            Start::Enclosed(enclosure) => Ok(self.taken(Head::Enclosed(enclosure))),
-            Start::If => Ok(self.taken(Head::If)),
-            Start::While => Ok(self.taken(Head::Paired(Pair::While))),
-            Start::Repeat => Ok(self.taken(Head::Paired(Pair::Repeat))),
-            Start::For => Ok(Head::Paired(Pair::For(self.counter(alloc)?))),
-            Start::Forall => Ok(Head::Paired(Pair::Forall(self.counter(alloc)?))),
+            Start::Enclosed(enclosure) => Ok(self.taken(PrimaryHead::Enclosed(enclosure))),
+            Start::If => Ok(self.taken(PrimaryHead::If)),
+            Start::While => Ok(self.taken(PrimaryHead::Paired(Pair::While))),
+            Start::Repeat => Ok(self.taken(PrimaryHead::Paired(Pair::Repeat))),
+            Start::For => Ok(PrimaryHead::Paired(Pair::For(self.counter(alloc)?))),
+            Start::Forall => Ok(PrimaryHead::Paired(Pair::Forall(self.counter(alloc)?))),
             Start::Exists => {
                 self.take();
                 let names = self.names(alloc)?;
                 self.expect(Mark::Symbol(Symbol::Colon))?;
-                Ok(Head::Exists(names))
+                Ok(PrimaryHead::Exists(names))
             }
         }
     }
 
     /// Takes the next token, which is the head.
-    fn taken(&mut self, head: Head) -> Head
+    fn taken(&mut self, head: PrimaryHead) -> PrimaryHead
         ensures head { result ≡ head }
         ensures rest { self.new ≡ drop 1 self.old }
     {
@@ -65,15 +65,15 @@ impl Parser<'_> {
 
     /// Takes a name, and the `(` of a call where it follows.
     #[tactic(auto, unfolding(crate::specs::Head::name_or_call))]
-    fn name_or_call(&mut self, alloc: Global) -> Result<Head, Refusal>
+    fn name_or_call(&mut self, alloc: Global) -> Result<PrimaryHead, Refusal>
         ensures { ReturnsReading (λ h. h) (spec.name_or_call self.old) result self.new }
     {
         let name = self.taken_name(alloc)?;
         if self.sees(Mark::Symbol(Symbol::OpenRound)) {
             self.take();
-            Ok(Head::Listed(Listed::Call(name)))
+            Ok(PrimaryHead::Listed(Listed::Call(name)))
         } else {
-            Ok(Head::Atom(Atom::Name(name)))
+            Ok(PrimaryHead::Atom(Atom::Name(name)))
         }
     }
 

@@ -2,7 +2,7 @@
 ghost use Rattle.std.specs.Prelude.{◌≡◌};
 ghost use Rattle.tp_parse.specs.Marks as spec;
 
-use crate::mark::{Enclosure, Mark, Prefix, Role, Start};
+use crate::mark::{Enclosure, Mark, Prefix, Start, TokenRole};
 use tp_lex::{Kind, Symbol, Word};
 use tp_tree::level::{AND, INDEX, NOT, PREFIX, op_level};
 use tp_tree::{Bare, Form, Op};
@@ -84,46 +84,46 @@ pub fn prefix_at(level: u8, mark: Mark) -> Option<Prefix>
     }
 }
 
-pub fn role_of(mark: Mark) -> Role
+pub fn role_of(mark: Mark) -> TokenRole
     ensures { result ≡ spec.role_of mark }
 {
     match mark {
-        Mark::Symbol(Symbol::Semicolon) => Role::Infix(Op::Chop),
-        Mark::Word(Word::Proj) => Role::Infix(Op::Proj),
-        Mark::Word(Word::Or) => Role::Infix(Op::Or),
-        Mark::Word(Word::And) => Role::Joins,
-        Mark::Symbol(Symbol::Equal) => Role::Infix(Op::Equal),
-        Mark::Symbol(Symbol::Differs) => Role::Infix(Op::Differs),
-        Mark::Symbol(Symbol::Less) => Role::Infix(Op::Less),
-        Mark::Symbol(Symbol::LessEqual) => Role::Infix(Op::LessEqual),
-        Mark::Symbol(Symbol::Greater) => Role::Infix(Op::Greater),
-        Mark::Symbol(Symbol::GreaterEqual) => Role::Infix(Op::GreaterEqual),
-        Mark::Word(Word::Gets) => Role::Infix(Op::Gets),
-        Mark::Symbol(Symbol::Arrow) => Role::Infix(Op::Arrow),
-        Mark::Symbol(Symbol::Becomes) => Role::Infix(Op::Becomes),
-        Mark::Symbol(Symbol::Plus) => Role::Infix(Op::Plus),
-        Mark::Symbol(Symbol::Minus) => Role::Infix(Op::Minus),
-        Mark::Symbol(Symbol::Times) => Role::Infix(Op::Times),
-        Mark::Word(Word::Div) => Role::Infix(Op::Div),
-        Mark::Word(Word::Mod) => Role::Infix(Op::Mod),
-        Mark::Symbol(Symbol::OpenSquare) => Role::Opens,
-        _ => Role::Ends,
+        Mark::Symbol(Symbol::Semicolon) => TokenRole::Infix(Op::Chop),
+        Mark::Word(Word::Proj) => TokenRole::Infix(Op::Proj),
+        Mark::Word(Word::Or) => TokenRole::Infix(Op::Or),
+        Mark::Word(Word::And) => TokenRole::Joins,
+        Mark::Symbol(Symbol::Equal) => TokenRole::Infix(Op::Equal),
+        Mark::Symbol(Symbol::Differs) => TokenRole::Infix(Op::Differs),
+        Mark::Symbol(Symbol::Less) => TokenRole::Infix(Op::Less),
+        Mark::Symbol(Symbol::LessEqual) => TokenRole::Infix(Op::LessEqual),
+        Mark::Symbol(Symbol::Greater) => TokenRole::Infix(Op::Greater),
+        Mark::Symbol(Symbol::GreaterEqual) => TokenRole::Infix(Op::GreaterEqual),
+        Mark::Word(Word::Gets) => TokenRole::Infix(Op::Gets),
+        Mark::Symbol(Symbol::Arrow) => TokenRole::Infix(Op::Arrow),
+        Mark::Symbol(Symbol::Becomes) => TokenRole::Infix(Op::Becomes),
+        Mark::Symbol(Symbol::Plus) => TokenRole::Infix(Op::Plus),
+        Mark::Symbol(Symbol::Minus) => TokenRole::Infix(Op::Minus),
+        Mark::Symbol(Symbol::Times) => TokenRole::Infix(Op::Times),
+        Mark::Word(Word::Div) => TokenRole::Infix(Op::Div),
+        Mark::Word(Word::Mod) => TokenRole::Infix(Op::Mod),
+        Mark::Symbol(Symbol::OpenSquare) => TokenRole::Opens,
+        _ => TokenRole::Ends,
     }
 }
 
 /// What the token does at this level.
 #[tactic(auto, unfolding(crate::specs::Marks::role_at))]
-pub fn role_at(level: u8, mark: Mark) -> Role
+pub fn role_at(level: u8, mark: Mark) -> TokenRole
     ensures { result ≡ spec.role_at level mark }
 {
     let role = role_of(mark);
     let own = match role {
-        Role::Ends => 0,
-        Role::Infix(op) => op_level(op),
-        Role::Opens => INDEX,
-        Role::Joins => AND,
+        TokenRole::Ends => 0,
+        TokenRole::Infix(op) => op_level(op),
+        TokenRole::Opens => INDEX,
+        TokenRole::Joins => AND,
     };
-    if own == level { role } else { Role::Ends }
+    if own == level { role } else { TokenRole::Ends }
 }
 
 pub fn start_of(mark: Mark) -> Start

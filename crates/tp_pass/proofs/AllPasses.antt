@@ -5,7 +5,7 @@ use Rattle.tp_scene.specs.Laws.{IsSound}
 use Rattle.tp_step.specs.declared.ending.Ending.{Ending}
 use Rattle.tp_step.specs.declared.ending.Ending.TheVariants.{Rest}
 use Rattle.tp_step.specs.declared.order.Order.{Order}
-use Rattle.tp_step.specs.Closes.{ClosureAnswers, ClosureEnds, Made}
+use Rattle.tp_step.specs.Closes.{ClosureAnswers, ClosureEnds, LedByPicks}
 use Rattle.tp_step.specs.EveryRest.{ClosureCommutes}
 use Rattle.tp_step.specs.Room.{ClosureKeepsRoom}
 use Rattle.tp_step.proofs.Picks.{made_none, made_on}
@@ -17,7 +17,7 @@ use Rattle.tp_pass.proofs.Following.{PassesSoFar, passes_begin, passes_go_on, cl
 
 -- What was made so far, and by which passes.
 pub record IsClosing (w : Setting) (m here : Moment) (order between : Order) (l0 l1 : ℕ) (b0 b1 : List ℕ) : Type 0 where
-  pub made : Made w m here l0 l1 b0 b1
+  pub made : LedByPicks w m here l0 l1 b0 b1
   pub passes : PassesSoFar w m here order between l0 l1 b0 b1
   pub sound : (kinds : List Bool) → IsSound w kinds m → IsSound w kinds here
 
@@ -44,7 +44,7 @@ module _ (w : Setting) (m here next : Moment) (order between after : Order) (l0 
       }
 
   module _ (kinds : List Bool) (sound : IsSound w kinds m) where
-    closes_so : (ending : Ending) → Made w here next l1 l2 b1 b2 → ClosureEnds w l2 next ending → FollowsOrder w order l0 m next b0 b2 ending → ClosesByPasses w order l0 m next b0 b2 ending
+    closes_so : (ending : Ending) → LedByPicks w here next l1 l2 b1 b2 → ClosureEnds w l2 next ending → FollowsOrder w order l0 m next b0 b2 ending → ClosesByPasses w order l0 m next b0 b2 ending
     closes_so ending made ends follows =
         let sound_then : (ks : List Bool) → IsSound w ks m → IsSound w ks next = λ ks k. pass.sound ks (h.sound ks k) in
         let closes : ClosureAnswers w l0 m next b0 b2 ending = record { left = l2; made = made_on w m here next l0 l1 l2 b0 b1 b2 h.made made; ends = ends } in

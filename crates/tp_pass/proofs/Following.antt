@@ -12,7 +12,7 @@ use Rattle.tp_step.specs.declared.answer.Tried.TheVariants as tried
 use Rattle.tp_pass.specs.declared.sweep.Sweep.{Sweep}
 use Rattle.tp_pass.specs.Sweeps.{BeginsSweep, TakesTurn}
 use Rattle.tp_step.specs.EndsWith.{EndsWithItem}
-use Rattle.tp_step.specs.Closes.{LooksAt, Looks, Counts, ending_of, is_pick}
+use Rattle.tp_step.specs.Closes.{LooksAt, WasLookedAt, Counts, ending_of, is_pick}
 use Rattle.tp_pass.specs.Follows.{Turns, no_turn_yet, one_pick, no_pick, PassSoFar, WholePasses, no_pass_yet, whole_pass, EndsAtTurn, PassTurns, EndsLastPass, FollowsOrder}
 
 -- Picks that were made so, appended to those before, of which each took one of the reductions that were left.
@@ -48,7 +48,7 @@ turns_begin w m sweep left before = no_pick_yet (λ picks. Turns w m sweep picks
 
 -- one turn more
 pub turns_go_on : (w : Setting) (m here next : Moment) (first sweep gone : Sweep) (l0 l1 l2 : ℕ) (b0 b1 b2 : List ℕ) (item : ℕ)
-    → TurnsSoFar w m here first sweep l0 l1 b0 b1 → TakesTurn here.scene.next_item sweep gone (Some item) → Looks w item here next l1 l2 b1 b2 None
+    → TurnsSoFar w m here first sweep l0 l1 b0 b1 → TakesTurn here.scene.next_item sweep gone (Some item) → WasLookedAt w item here next l1 l2 b1 b2 None
     → TurnsSoFar w m next first gone l0 l2 b0 b2
 turns_go_on w m here next first sweep gone l0 l1 l2 b0 b1 b2 item h turn (inl x) =
     more_picks (λ picks. Turns w m first picks here sweep) (λ picks. Turns w m first picks next gone) l0 l1 l2 b0 b1 b2 (item ∷ []) h (one_pick h.made turn x.1) x.3 (omega (arith, x.2))
@@ -83,7 +83,7 @@ may_end w t m next l l' b a (Some (tried.Over limit)) h c = (h.0, elim (h.1.1) [
 
 -- the closure ends at a turn
 pub turns_end : (w : Setting) (m here next : Moment) (first sweep gone : Sweep) (l0 l1 l2 : ℕ) (b0 b1 b2 : List ℕ) (item : ℕ) (ending : Ending)
-    → TurnsSoFar w m here first sweep l0 l1 b0 b1 → TakesTurn here.scene.next_item sweep gone (Some item) → Looks w item here next l1 l2 b1 b2 (Some ending)
+    → TurnsSoFar w m here first sweep l0 l1 b0 b1 → TakesTurn here.scene.next_item sweep gone (Some item) → WasLookedAt w item here next l1 l2 b1 b2 (Some ending)
     → MayEndWith w l2 here item (Some ending) → TurnsSoFar w m next first sweep l0 l2 b0 b2 × EndsAtTurn w l2 next sweep ending
 turns_end w m here next first sweep gone l0 l1 l2 b0 b1 b2 item ending h turn x ends =
     let still = same_picks (λ picks. Turns w m first picks here sweep) (λ picks. Turns w m first picks here sweep) l0 l1 l2 b0 b1 b2 h h.made x.3 x.2 in

@@ -6,7 +6,7 @@ use Rattle.tp_scene.specs.Laws.{IsSound}
 use Rattle.tp_step.specs.declared.ending.Ending.{Ending}
 use Rattle.tp_step.specs.declared.order.Order.{Order}
 use Rattle.tp_step.specs.declared.answer.Tried.{Tried}
-use Rattle.tp_step.specs.Closes.{Counts, Looks, LooksAt, ending_of, is_pick}
+use Rattle.tp_step.specs.Closes.{Counts, WasLookedAt, LooksAt, ending_of, is_pick}
 use Rattle.tp_pass.specs.declared.sweep.Sweep.{Sweep}
 use Rattle.tp_pass.specs.Passes.{MakesPass}
 use Rattle.tp_pass.specs.Sweeps.{BeginsSweep, TakesTurn}
@@ -40,8 +40,8 @@ module _ (w : Setting) (m here : Moment) (first sweep gone : Sweep) (l0 l1 : ℕ
   -- what comes of the item whose turn it is
   module _ (next : Moment) (l2 : ℕ) (b2 : List ℕ) (item : ℕ) (turn : TakesTurn here.scene.next_item sweep gone (Some item)) (sound : (kinds : List Bool) → IsSound w kinds here → IsSound w kinds next)
       (o : Option Tried) (looks : LooksAt w l1 here item next o) (counts : Counts (is_pick o) item l1 l2 b1 b2) (ended : Option Ending) (is_end : ended ≡ ending_of o) where
-    leads : (e : Option Ending) → ended ≡ e → Looks w item here next l1 l2 b1 b2 e
-    leads e is = subst (λ (z : Option Ending). Looks w item here next l1 l2 b1 b2 z) (sym is_end ∙ is) (looked w item here next l1 l2 b1 b2 o looks counts)
+    leads : (e : Option Ending) → ended ≡ e → WasLookedAt w item here next l1 l2 b1 b2 e
+    leads e is = subst (λ (z : Option Ending). WasLookedAt w item here next l1 l2 b1 b2 z) (sym is_end ∙ is) (looked w item here next l1 l2 b1 b2 o looks counts)
 
     ends_pass : (order after now : Order) → BeginsSweep m.scene.root.entries order after first → now ≡ after → (ending : Ending) → ended ≡ Some ending → MakesPass w m next order now l0 l2 b0 b2 (Some ending)
     ends_pass order after now begins same ending is =

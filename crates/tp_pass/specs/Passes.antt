@@ -3,7 +3,7 @@ use Rattle.std.specs.Prelude.{◌≡◌, ℕ, Bool, List, Option, None, Some}
 use Rattle.tp_scene.specs.Pick.{Setting, Moment}
 use Rattle.tp_scene.specs.Laws.{IsSound}
 use Rattle.tp_scene.specs.Rest.{AtRest}
-use Rattle.tp_step.specs.Closes.{ClosureEnds, Made}
+use Rattle.tp_step.specs.Closes.{ClosureEnds, LedByPicks}
 use Rattle.tp_step.specs.declared.ending.Ending.{Ending}
 use Rattle.tp_step.specs.declared.order.Order.{Order}
 use Rattle.tp_pass.specs.Follows.{PassTurns}
@@ -13,9 +13,9 @@ use Rattle.tp_pass.specs.Follows.{PassTurns}
 abbrev pub Passes : Setting → (m next : Moment) → (left left' : ℕ) → (before after : List ℕ)
     → Option Ending → Type 0
 Passes w m next left left' before after None =
-    Made w m next left left' before after × (left' ≡ left → AtRest w next)
+    LedByPicks w m next left left' before after × (left' ≡ left → AtRest w next)
 Passes w m next left left' before after (Some ending) =
-    Made w m next left left' before after × ClosureEnds w left' next ending
+    LedByPicks w m next left left' before after × ClosureEnds w left' next ending
 
 -- All that a pass promises: what is sound stays so, and these are its end and its turns.
 pub record MakesPass (w : Setting) (m next : Moment) (order gone_on : Order) (left left' : ℕ)

@@ -4,7 +4,7 @@ ghost use Rattle.tp_scene.specs.Laws.{IsSound};
 ghost use Rattle.tp_decide.specs.Decided.{setting_of};
 ghost use Rattle.tp_slots.specs.Kept.{IsWellKept};
 ghost use Rattle.tp_step.specs.Answers.{moment_of};
-ghost use Rattle.tp_step.specs.Closes.{ClosureAnswers, Counts, Made, ending_of, is_pick};
+ghost use Rattle.tp_step.specs.Closes.{ClosureAnswers, Counts, LedByPicks, ending_of, is_pick};
 ghost use Rattle.tp_step.specs.EveryRest.{ClosureCommutes};
 ghost use Rattle.tp_step.specs.Room.{ClosureKeepsRoom};
 ghost use Rattle.tp_pass.specs.Follows.{FollowsOrder};
@@ -70,7 +70,7 @@ fn pass<L: Ledger>(
         (moment_of scene.new (contents_in store.new)) strategy.old.order strategy.new.order
         strategy.old.room strategy.new.room tally.old.picks tally.new.picks) }
     ensures err { OnErr result
-        (Made (setting_of setting.now) (moment_of scene.old (contents_in store.old))
+        (LedByPicks (setting_of setting.now) (moment_of scene.old (contents_in store.old))
         (moment_of scene.new (contents_in store.new)) strategy.old.room strategy.new.room
         tally.old.picks tally.new.picks) }
     ensures waits { tally.new.waits ≡ tally.old.waits }
@@ -123,7 +123,7 @@ pub fn close_by_passes<L: Ledger>(
         tally.old.picks tally.new.picks) }
     ensures err { OnErr result
         ((left : ℕ)
-        × Made (setting_of setting.now) (moment_of scene.old (contents_in store.old))
+        × LedByPicks (setting_of setting.now) (moment_of scene.old (contents_in store.old))
         (moment_of scene.new (contents_in store.new)) strategy.room left tally.old.picks
         tally.new.picks) }
     ensures order { IfOk result

@@ -2,7 +2,7 @@
 ghost use Rattle.std.specs.Prelude.{◌≡◌, ◌<◌, ◌++◌, length, IfOk, OnOk};
 ghost use Rattle.tp_tree.specs.Levels.{not_level, kind_level};
 ghost use Rattle.tp_tree.specs.Spelling.{kind_spelling};
-ghost use Rattle.tp_decide.specs.ReadPhrase.{env_of, formula_of};
+ghost use Rattle.tp_decide.specs.ReadBound.{env_of, formula_of};
 ghost use Rattle.tp_slots.specs.Own.{own_for, own_inside};
 ghost use Rattle.tp_slots.specs.Plain.{IsOrdered};
 ghost use Rattle.tp_slots.specs.Read.{slots_of};
@@ -13,7 +13,7 @@ use crate::expr::append_operator;
 use crate::formula::{append_formula, formula_level};
 use crate::words::{Bound, Words};
 use std::alloc::Global;
-use tp_decide::{Leaf, Phrase};
+use tp_decide::{BoundFormula, Leaf};
 use tp_kernel::Defs;
 use tp_slots::{Holder, Scene, What};
 use tp_store::Store;
@@ -89,37 +89,37 @@ fn entries_level(residue: &Residue, region: u64, items: &[u64]) -> u8
 }
 
 // Appends a formula with what its bound names stand for, with no parentheses round the whole.
-fn append_whole(out: &mut Text, residue: &Residue, phrase: &Phrase) -> Result<(), NoMemory>
+fn append_whole(out: &mut Text, residue: &Residue, due: &BoundFormula) -> Result<(), NoMemory>
     ensures { OnOk result
         (out.new
         ≡ out.old
-        ++ kind_spelling (phrase_kind residue.now (env_of phrase.now) (formula_of phrase.now))) }
+        ++ kind_spelling (phrase_kind residue.now (env_of due.now) (formula_of due.now))) }
 {
-    let bound = Bound::Around(&phrase.env);
+    let bound = Bound::Around(&due.env);
     let words = Words {
         alloc: residue.alloc,
         store: residue.store,
         defs: residue.defs,
         bound: &bound,
     };
-    append_formula(out, &words, &phrase.what)
+    append_formula(out, &words, &due.what)
 }
 
 // The same, bare where its level is at most this, else in parentheses.
 fn append_phrase(
     out: &mut Text,
     residue: &Residue,
-    phrase: &Phrase,
+    due: &BoundFormula,
     most: u8,
 ) -> Result<(), NoMemory>
-    ensures { let k = phrase_kind residue.now (env_of phrase.now) (formula_of phrase.now) in OnOk
+    ensures { let k = phrase_kind residue.now (env_of due.now) (formula_of due.now) in OnOk
         result (out.new ≡ out.old ++ enclosed most (kind_level k) (kind_spelling k)) }
 {
-    if formula_level(&phrase.what) <= most {
-        append_whole(out, residue, phrase)
+    if formula_level(&due.what) <= most {
+        append_whole(out, residue, due)
     } else {
         out.append(b"(")?;
-        append_whole(out, residue, phrase)?;
+        append_whole(out, residue, due)?;
         out.append(b")")
     }
 }

@@ -126,80 +126,80 @@ module _ (names : VisibleNames) where
 
 -- ---- formulas
 
-abbrev Made : FormulaTree → Type 0
-Made = FormulaIsPrintable
+abbrev HasText : FormulaTree → Type 0
+HasText = FormulaIsPrintable
 
-abbrev AllMade : List FormulaTree → Type 0
-AllMade ws = FormulasArePrintable (formulas_of ws)
+abbrev AllHaveText : List FormulaTree → Type 0
+AllHaveText ws = FormulasArePrintable (formulas_of ws)
 
-equation_made : (n m at : ℕ) (l r : CheckOutcome ExprTree) → IfOk l Good → IfOk r Good → IfOk (equation_of n m at l r) Made
-equation_made zero zero at l r p q = both_ok _ l r Good Good Made p q (λ x y a b. (a, b))
-equation_made (suc n) zero at l r p q = both_ok (λ t e. next_equals_of (suc n) t e) l r Good Good Made p q (λ x y a b. (tt, ((a, b), tt)))
-equation_made zero (suc m) at l r p q = both_ok (λ e t. next_equals_of (suc m) t e) l r Good Good Made p q (λ x y a b. (tt, ((b, a), tt)))
-equation_made (suc n) (suc m) at l r p q = both_ok equation l (not_expression at) Good (λ e. ⊥) Made p tt (λ x y a h. absurd h)
+equation_made : (n m at : ℕ) (l r : CheckOutcome ExprTree) → IfOk l Good → IfOk r Good → IfOk (equation_of n m at l r) HasText
+equation_made zero zero at l r p q = both_ok _ l r Good Good HasText p q (λ x y a b. (a, b))
+equation_made (suc n) zero at l r p q = both_ok (λ t e. next_equals_of (suc n) t e) l r Good Good HasText p q (λ x y a b. (tt, ((a, b), tt)))
+equation_made zero (suc m) at l r p q = both_ok (λ e t. next_equals_of (suc m) t e) l r Good Good HasText p q (λ x y a b. (tt, ((b, a), tt)))
+equation_made (suc n) (suc m) at l r p q = both_ok equation l (not_expression at) Good (λ e. ⊥) HasText p tt (λ x y a h. absurd h)
 
-bare_made : (word : Bare) → Made (bare_of word)
+bare_made : (word : Bare) → HasText (bare_of word)
 bare_made Empty = tt
 bare_made x = tt
 
-exists_made : (xs : Names) (w : FormulaTree) → AreLines xs → Made w → Made (exists_of xs w)
+exists_made : (xs : Names) (w : FormulaTree) → AreLines xs → HasText w → HasText (exists_of xs w)
 exists_made [] w lines h = h
 exists_made (x ∷ xs) w lines h = (All-head IsOneLine x xs lines, exists_made xs w (All-tail IsOneLine x xs lines) h)
 
 module _ (names : VisibleNames) where
-  state_made : (at : ℕ) (kind : k.KindTree) → IfOk (state_in names at kind) Made
+  state_made : (at : ℕ) (kind : k.KindTree) → IfOk (state_in names at kind) HasText
   state_made at kind =
       let e = expr_kind_good names at kind in
-      if_ok (is_place_kind kind) _ _ Made (mapped_ok _ (expr_of_kind names at kind) Good Made e (λ x h. (h, tt))) (mapped_ok _ (expr_of_kind names at kind) Good Made e (λ x h. h))
+      if_ok (is_place_kind kind) _ _ HasText (mapped_ok _ (expr_of_kind names at kind) Good HasText e (λ x h. (h, tt))) (mapped_ok _ (expr_of_kind names at kind) Good HasText e (λ x h. h))
 
-  negation_made : (at : ℕ) (p : PhraseTree) → IfOk (negation_in names at p) Made
+  negation_made : (at : ℕ) (p : PhraseTree) → IfOk (negation_in names at p) HasText
   negation_made at p =
-      if_ok (is_place_phrase p) _ _ Made (mapped_ok _ (expr_of names p) Good Made (expr_good names p) (λ x h. (h, tt)))
-      (if_ok (is_state_in names p) _ _ Made (state_made at (k.negation p)) tt)
+      if_ok (is_place_phrase p) _ _ HasText (mapped_ok _ (expr_of names p) Good HasText (expr_good names p) (λ x h. (h, tt)))
+      (if_ok (is_state_in names p) _ _ HasText (state_made at (k.negation p)) tt)
 
-  binary_made : (at : ℕ) (o : Op) (l r : PhraseTree) → IfOk (binary_in names at o l r) Made
+  binary_made : (at : ℕ) (o : Op) (l r : PhraseTree) → IfOk (binary_in names at o l r) HasText
   binary_made at op.Equal l r = equation_made (nexts_of l) (nexts_of r) (at_of r) (expr_of names (behind_nexts l)) (expr_of names (behind_nexts r)) (expr_good names (behind_nexts l)) (expr_good names (behind_nexts r))
-  binary_made at op.Gets l r = both_ok _ (place_phrase names l) (expr_of names r) Good Good Made (place_good names l) (expr_good names r) (λ x y a b. (a, b))
-  binary_made at op.Arrow l r = both_ok _ (place_phrase names l) (expr_of names r) Good Good Made (place_good names l) (expr_good names r) (λ x y a b. (a, b))
-  binary_made at op.Becomes l r = both_ok _ (place_phrase names l) (expr_of names r) Good Good Made (place_good names l) (expr_good names r) (λ x y a b. (tt, ((a, b), tt)))
-  binary_made at op.Or l r = if_ok (is_state_in names l && is_state_in names r) _ _ Made (state_made at (k.binary op.Or l r)) tt
+  binary_made at op.Gets l r = both_ok _ (place_phrase names l) (expr_of names r) Good Good HasText (place_good names l) (expr_good names r) (λ x y a b. (a, b))
+  binary_made at op.Arrow l r = both_ok _ (place_phrase names l) (expr_of names r) Good Good HasText (place_good names l) (expr_good names r) (λ x y a b. (a, b))
+  binary_made at op.Becomes l r = both_ok _ (place_phrase names l) (expr_of names r) Good Good HasText (place_good names l) (expr_good names r) (λ x y a b. (tt, ((a, b), tt)))
+  binary_made at op.Or l r = if_ok (is_state_in names l && is_state_in names r) _ _ HasText (state_made at (k.binary op.Or l r)) tt
   binary_made at o l r = state_made at (k.binary o l r)
 
-  called_made : (at : ℕ) (o : Option Called) (ps : PhraseTrees) → IfOk (called_formula names at o ps) Made
+  called_made : (at : ℕ) (o : Option Called) (ps : PhraseTrees) → IfOk (called_formula names at o ps) HasText
   called_made at None ps = tt
   called_made at (Some c) ps =
       let xs = c.signature.parameters in
-      if_ok (nat_eq (phrase_count ps) (length xs)) _ _ Made (mapped_ok _ (arguments_in names ps xs) AllGood Made (arguments_good names ps xs) (λ es h. h)) tt
+      if_ok (nat_eq (phrase_count ps) (length xs)) _ _ HasText (mapped_ok _ (arguments_in names ps xs) AllGood HasText (arguments_good names ps xs) (λ es h. h)) tt
 
   port_made : (p : PhraseTree) → AreLines (phrase_names p) → IfOk (port_phrase names p) IsOneLine
   port_made (phrase at (k.name x)) lines = if_ok (is_lower x) (Ok x) _ IsOneLine (All-head IsOneLine x [] lines) tt
   port_made (phrase at kind) lines = tt
 
 mutual
-  formula_made : (names : VisibleNames) (p : PhraseTree) → AreLines (phrase_names p) → IfOk (formula_of names p) Made
+  formula_made : (names : VisibleNames) (p : PhraseTree) → AreLines (phrase_names p) → IfOk (formula_of names p) HasText
   formula_made names (phrase at kind) lines = formula_kind_made names at kind lines
 
-  formula_kind_made : (names : VisibleNames) (at : ℕ) (kind : k.KindTree) → AreLines (kind_names kind) → IfOk (formula_of_kind names at kind) Made
-  formula_kind_made names at (k.conjunction ps) lines = mapped_ok _ (formulas_in names ps) AllMade Made (formulas_made names ps lines) (λ ws h. h)
+  formula_kind_made : (names : VisibleNames) (at : ℕ) (kind : k.KindTree) → AreLines (kind_names kind) → IfOk (formula_of_kind names at kind) HasText
+  formula_kind_made names at (k.conjunction ps) lines = mapped_ok _ (formulas_in names ps) AllHaveText HasText (formulas_made names ps lines) (λ ws h. h)
   formula_kind_made names at (k.truth true) lines = tt
   formula_kind_made names at (k.negation p) lines = negation_made names at p
   formula_kind_made names at (k.binary op.Chop l r) lines =
-      both_ok _ (formula_of names l) (formula_of names r) Made Made Made (formula_made names l (front (phrase_names l) (phrase_names r) lines)) (formula_made names r (back (phrase_names l) (phrase_names r) lines)) (λ w v a b. (a, b))
+      both_ok _ (formula_of names l) (formula_of names r) HasText HasText HasText (formula_made names l (front (phrase_names l) (phrase_names r) lines)) (formula_made names r (back (phrase_names l) (phrase_names r) lines)) (λ w v a b. (a, b))
   formula_kind_made names at (k.binary op.Proj l r) lines =
-      both_ok _ (formula_of names l) (formula_of names r) Made Made Made (formula_made names l (front (phrase_names l) (phrase_names r) lines)) (formula_made names r (back (phrase_names l) (phrase_names r) lines)) (λ w v a b. (a, b))
+      both_ok _ (formula_of names l) (formula_of names r) HasText HasText HasText (formula_made names l (front (phrase_names l) (phrase_names r) lines)) (formula_made names r (back (phrase_names l) (phrase_names r) lines)) (λ w v a b. (a, b))
   formula_kind_made names at (k.binary o l r) lines = binary_made names at o l r
   formula_kind_made names at (k.bare word) lines = bare_made word
-  formula_kind_made names at (k.next w) lines = mapped_ok _ (formula_of names w) Made Made (formula_made names w lines) (λ x h. h)
-  formula_kind_made names at (k.form f.Always (phrase_then w no_phrase)) lines = mapped_ok _ (formula_of names w) Made Made (formula_made names w (front (phrase_names w) [] lines)) (λ x h. h)
-  formula_kind_made names at (k.form f.Keep (phrase_then w no_phrase)) lines = mapped_ok _ (formula_of names w) Made Made (formula_made names w (front (phrase_names w) [] lines)) (λ x h. h)
-  formula_kind_made names at (k.form f.Fin (phrase_then w no_phrase)) lines = mapped_ok _ (formula_of names w) Made Made (formula_made names w (front (phrase_names w) [] lines)) (λ x h. h)
-  formula_kind_made names at (k.form f.Halt (phrase_then b no_phrase)) lines = mapped_ok _ (expr_of names b) Good Made (expr_good names b) (λ x h. (h, tt, tt))
-  formula_kind_made names at (k.form f.Stable (phrase_then p no_phrase)) lines = mapped_ok _ (place_phrase names p) Good Made (place_good names p) (λ x h. (h, h))
-  formula_kind_made names at (k.form f.Len (phrase_then e no_phrase)) lines = mapped_ok _ (expr_of names e) Good Made (expr_good names e) (λ x h. h)
-  formula_kind_made names at (k.form f.List (phrase_then l (phrase_then e no_phrase))) lines = both_ok _ (place_phrase names l) (expr_of names e) Good Good Made (place_good names l) (expr_good names e) (λ x y a b. (a, b))
+  formula_kind_made names at (k.next w) lines = mapped_ok _ (formula_of names w) HasText HasText (formula_made names w lines) (λ x h. h)
+  formula_kind_made names at (k.form f.Always (phrase_then w no_phrase)) lines = mapped_ok _ (formula_of names w) HasText HasText (formula_made names w (front (phrase_names w) [] lines)) (λ x h. h)
+  formula_kind_made names at (k.form f.Keep (phrase_then w no_phrase)) lines = mapped_ok _ (formula_of names w) HasText HasText (formula_made names w (front (phrase_names w) [] lines)) (λ x h. h)
+  formula_kind_made names at (k.form f.Fin (phrase_then w no_phrase)) lines = mapped_ok _ (formula_of names w) HasText HasText (formula_made names w (front (phrase_names w) [] lines)) (λ x h. h)
+  formula_kind_made names at (k.form f.Halt (phrase_then b no_phrase)) lines = mapped_ok _ (expr_of names b) Good HasText (expr_good names b) (λ x h. (h, tt, tt))
+  formula_kind_made names at (k.form f.Stable (phrase_then p no_phrase)) lines = mapped_ok _ (place_phrase names p) Good HasText (place_good names p) (λ x h. (h, h))
+  formula_kind_made names at (k.form f.Len (phrase_then e no_phrase)) lines = mapped_ok _ (expr_of names e) Good HasText (expr_good names e) (λ x h. h)
+  formula_kind_made names at (k.form f.List (phrase_then l (phrase_then e no_phrase))) lines = both_ok _ (place_phrase names l) (expr_of names e) Good Good HasText (place_good names l) (expr_good names e) (λ x y a b. (a, b))
   formula_kind_made names at (k.form f.Input (phrase_then x (phrase_then p no_phrase))) lines =
-      both_ok input (place_phrase names x) (port_phrase names p) Good IsOneLine Made (place_good names x) (port_made names p (front (phrase_names p) [] (back (phrase_names x) (phrase_names p ++ []) lines))) (λ y port a h. (a, h))
-  formula_kind_made names at (k.form f.Display (phrase_then e es)) lines = mapped_ok _ (exprs_in names (phrase_then e es)) AllGood Made (exprs_good names (phrase_then e es)) (λ xs h. h)
+      both_ok input (place_phrase names x) (port_phrase names p) Good IsOneLine HasText (place_good names x) (port_made names p (front (phrase_names p) [] (back (phrase_names x) (phrase_names p ++ []) lines))) (λ y port a h. (a, h))
+  formula_kind_made names at (k.form f.Display (phrase_then e es)) lines = mapped_ok _ (exprs_in names (phrase_then e es)) AllGood HasText (exprs_good names (phrase_then e es)) (λ xs h. h)
   formula_kind_made names at (k.form f.Sometimes ps) lines = tt
   formula_kind_made names at (k.form f.Input ps) lines = tt
   formula_kind_made names at (k.form f.Display ps) lines = tt
@@ -211,31 +211,31 @@ mutual
   formula_kind_made names at (k.form f.Len ps) lines = tt
   formula_kind_made names at (k.form f.List ps) lines = tt
   formula_kind_made names at (k.choice b w) lines =
-      both_ok _ (expr_of names b) (formula_of names w) Good Made Made (expr_good names b) (formula_made names w (back (phrase_names b) (phrase_names w) lines)) (λ x y a h. (a, h, tt))
+      both_ok _ (expr_of names b) (formula_of names w) Good HasText HasText (expr_good names b) (formula_made names w (back (phrase_names b) (phrase_names w) lines)) (λ x y a h. (a, h, tt))
   formula_kind_made names at (k.choice_else b w v) lines =
       let rest = back (phrase_names b) (phrase_names w ++ phrase_names v) lines in
-      three_ok _ (expr_of names b) (formula_of names w) (formula_of names v) Good Made Made Made (expr_good names b) (formula_made names w (front (phrase_names w) (phrase_names v) rest)) (formula_made names v (back (phrase_names w) (phrase_names v) rest)) (λ x y z a g h. (a, g, h))
-  formula_kind_made names at (k.while b w) lines = both_ok while (expr_of names b) (formula_of names w) Good Made Made (expr_good names b) (formula_made names w (back (phrase_names b) (phrase_names w) lines)) (λ x y a h. (a, h))
-  formula_kind_made names at (k.repeat w b) lines = both_ok repeat_of (formula_of names w) (expr_of names b) Made Good Made (formula_made names w (front (phrase_names w) (phrase_names b) lines)) (expr_good names b) (λ x y h a. (h, (a, h)))
+      three_ok _ (expr_of names b) (formula_of names w) (formula_of names v) Good HasText HasText HasText (expr_good names b) (formula_made names w (front (phrase_names w) (phrase_names v) rest)) (formula_made names v (back (phrase_names w) (phrase_names v) rest)) (λ x y z a g h. (a, g, h))
+  formula_kind_made names at (k.while b w) lines = both_ok while (expr_of names b) (formula_of names w) Good HasText HasText (expr_good names b) (formula_made names w (back (phrase_names b) (phrase_names w) lines)) (λ x y a h. (a, h))
+  formula_kind_made names at (k.repeat w b) lines = both_ok repeat_of (formula_of names w) (expr_of names b) HasText Good HasText (formula_made names w (front (phrase_names w) (phrase_names b) lines)) (expr_good names b) (λ x y h a. (h, (a, h)))
   formula_kind_made names at (k.for x e w) lines =
       let rest = All-tail IsOneLine x (phrase_names e ++ phrase_names w) lines in
-      both_ok _ (expr_of names e) (formula_of (with_binder x names) w) Good Made Made (expr_good names e) (formula_made (with_binder x names) w (back (phrase_names e) (phrase_names w) rest))
+      both_ok _ (expr_of names e) (formula_of (with_binder x names) w) Good HasText HasText (expr_good names e) (formula_made (with_binder x names) w (back (phrase_names e) (phrase_names w) rest))
       (λ y z a h. (All-head IsOneLine x (phrase_names e ++ phrase_names w) lines, refl, a, h))
   formula_kind_made names at (k.forall x e w) lines =
       let rest = All-tail IsOneLine x (phrase_names e ++ phrase_names w) lines in
-      both_ok _ (expr_of names e) (formula_of (with_binder x names) w) Good Made Made (expr_good names e) (formula_made (with_binder x names) w (back (phrase_names e) (phrase_names w) rest))
+      both_ok _ (expr_of names e) (formula_of (with_binder x names) w) Good HasText HasText (expr_good names e) (formula_made (with_binder x names) w (back (phrase_names e) (phrase_names w) rest))
       (λ y z a h. (All-head IsOneLine x (phrase_names e ++ phrase_names w) lines, refl, a, h))
   formula_kind_made names at (k.exists xs w) lines =
       let inner = with_binders xs names in
-      if_ok (has_repeat xs) (Err (Twice at)) (mapped (exists_of xs) (formula_of inner w)) Made tt
-      (mapped_ok (exists_of xs) (formula_of inner w) Made Made (formula_made inner w (back xs (phrase_names w) lines)) (λ v h. exists_made xs v (front xs (phrase_names w) lines) h))
+      if_ok (has_repeat xs) (Err (Twice at)) (mapped (exists_of xs) (formula_of inner w)) HasText tt
+      (mapped_ok (exists_of xs) (formula_of inner w) HasText HasText (formula_made inner w (back xs (phrase_names w) lines)) (λ v h. exists_made xs v (front xs (phrase_names w) lines) h))
   formula_kind_made names at (k.call x ps) lines = called_made names at (called_of names.definitions x) ps
   formula_kind_made names at kind lines = state_made names at kind
 
-  formulas_made : (names : VisibleNames) (ps : PhraseTrees) → AreLines (operand_names ps) → IfOk (formulas_in names ps) AllMade
+  formulas_made : (names : VisibleNames) (ps : PhraseTrees) → AreLines (operand_names ps) → IfOk (formulas_in names ps) AllHaveText
   formulas_made names no_phrase lines = tt
   formulas_made names (phrase_then p ps) lines =
-      both_ok _ (formula_of names p) (formulas_in names ps) Made AllMade AllMade (formula_made names p (front (phrase_names p) (operand_names ps) lines)) (formulas_made names ps (back (phrase_names p) (operand_names ps) lines)) (λ x y g h. (g, h))
+      both_ok _ (formula_of names p) (formulas_in names ps) HasText AllHaveText AllHaveText (formula_made names p (front (phrase_names p) (operand_names ps) lines)) (formulas_made names ps (back (phrase_names p) (operand_names ps) lines)) (λ x y g h. (g, h))
 
 -- ---- definitions and programs
 
@@ -247,7 +247,7 @@ definition_made : (names : VisibleNames) (d : DefinitionTree) (b : Bool) → Are
 definition_made names d b lines =
     let inner = with_binders d.parameters names in
     let rest = All-tail IsOneLine d.name (d.parameters ++ phrase_names d.body) lines in
-    both_ok (definition_with d) (formula_of inner d.body) (expr_where b inner d.body) Made (λ o. IfSome o Good) DefinitionIsPrintable
+    both_ok (definition_with d) (formula_of inner d.body) (expr_where b inner d.body) HasText (λ o. IfSome o Good) DefinitionIsPrintable
     (formula_made inner d.body (back d.parameters (phrase_names d.body) rest)) (expr_where_good b inner d.body)
     (λ w o h g. record { name = All-head IsOneLine d.name (d.parameters ++ phrase_names d.body) lines; parameters = front d.parameters (phrase_names d.body) rest; formula = h; expr = g })
 
@@ -265,7 +265,7 @@ program_made : (globals : Names) (states : List Bool) (source : SourceTree) → 
 program_made globals states source lines =
     let names = outermost (signatures_of source.definitions states) globals in
     both_ok (λ ds main. let made : ProgramTree = record { defs = ds; main = main; globals = globals } in made) (definitions_in names source.definitions states) (formula_of names source.main)
-    (All DefinitionIsPrintable) Made BodiesArePrintable
+    (All DefinitionIsPrintable) HasText BodiesArePrintable
     (definitions_made names source.definitions states (front (names_in_definitions source.definitions) (phrase_names source.main) lines))
     (formula_made names source.main (back (names_in_definitions source.definitions) (phrase_names source.main) lines))
     (λ ds main h g. (h, g))

@@ -8,7 +8,7 @@ use Rattle.tp_lex.specs.declared.piece.Piece.{Piece}
 use Rattle.tp_lex.specs.declared.piece.Piece.TheVariants.{Gap, Lexeme, Refused}
 use Rattle.tp_lex.specs.Bytes.{is_name_byte, name_limit}
 use Rattle.tp_lex.specs.Pieces.{IsNoWord, BeginsPiece, word, upper, lower, number, symbol}
-use Rattle.tp_lex.specs.Tokens.{ReadsTokens, Ending, Whole, gap, lexeme}
+use Rattle.tp_lex.specs.Tokens.{ReadsTokens, ReadingEnd, Whole, gap, lexeme}
 use Rattle.tp_lex.specs.Names.{own_names, token_names, IsNameText}
 use Rattle.tp_lex.proofs.NameLemmas.{names_are_spelled}
 use Rattle.tp_show.specs.Trace.{AreNameBytes, IsVariableName}
@@ -37,7 +37,7 @@ piece_short z _ (number are low) = All-nil IsShortAndNoWord
 piece_short z _ (symbol is) = All-nil IsShortAndNoWord
 piece_short z _ x = tt
 
-short_from : (bytes : List ℕ) (at : ℕ) (ts : List Token) (end : Ending) → ReadsTokens bytes at ts end → All IsShortAndNoWord (token_names ts)
+short_from : (bytes : List ℕ) (at : ℕ) (ts : List Token) (end : ReadingEnd) → ReadsTokens bytes at ts end → All IsShortAndNoWord (token_names ts)
 short_from bytes at ts end (gap {n = n} is r) = short_from bytes (at + n) ts end r
 short_from bytes at _ end (lexeme {n = n} {kind = kind} {ts = ts} is r) =
     All-append IsShortAndNoWord (own_names kind) (token_names ts) (piece_short (drop at bytes) _ is) (short_from bytes (at + n) ts end r)

@@ -18,8 +18,8 @@ use Rattle.tp_show.specs.declared.line_part.LineParts.{LineParts}
 use Rattle.tp_decide.specs.Read.{shows_of}
 use Rattle.tp_show.specs.declared.turn.Picture.{Picture}
 
--- ---- what is known of the variables, in parts: whole values, and lengths of lists of which not all
--- is known
+-- ---- what is known of the variables, in parts: whole values, and lengths of lists of which not
+-- all is known
 
 -- a fact is before another: its variable's number is less, or it is of the same variable, and its
 -- indices are a part of the other's from the start, or less where they first differ

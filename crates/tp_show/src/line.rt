@@ -15,7 +15,8 @@ use tp_value::{Globals, NoMemory, Text, Value, write_value};
 
 // Appends a space and a part.
 fn append_part(out: &mut Text, globals: &Globals, part: &LinePart) -> Result<(), NoMemory>
-    ensures text { OnOk result (out.new ≡ out.old ++ spaced_text globals.now (plain_part part.now)) }
+    ensures text { OnOk result
+        (out.new ≡ out.old ++ spaced_text globals.now (plain_part part.now)) }
     ensures range { OnOk result (IsPartInRange (plain_part part.now)) }
 {
     match part {

@@ -1,12 +1,12 @@
--- A due item's phrase is taken out of its slot, and put back, or stands in the place of the item with one binding more.
+-- A due item's formula is taken out of its slot, and put back, or stands in the place of the item with one binding more.
 use Rattle.std.proofs.Common.{◌≡◌, ℕ, ◌<◌, List, [], ◌∷◌, ◌++◌, map, length, Option, None, refl, ap, sym, ◌∙◌, subst}
 use Rattle.std.specs.Prelude.{slice_set}
 use Rattle.std.proofs.lemmas.List.{get_or-map, length-map, map-append, set-get_or, get_or-set_same, set-set}
 use Rattle.tp_scene.specs.Scene as S
 use Rattle.tp_scene.specs.Pick.{scene_after}
 use Rattle.tp_decide.specs.declared.decision.Leaf.TheVariants.{Do}
-use Rattle.tp_decide.specs.declared.phrase.Phrase.{Phrase}
-use Rattle.tp_decide.specs.ReadPhrase.{env_of, formula_of}
+use Rattle.tp_decide.specs.declared.bound_formula.BoundFormula.{BoundFormula}
+use Rattle.tp_decide.specs.ReadBound.{env_of, formula_of}
 use Rattle.tp_slots.specs.Bound.{IsDueUnder, IsTakenOut, slot_in, slot_with}
 use Rattle.tp_slots.specs.Kept.{IsUnchanged, IsWellKept, Lives}
 use Rattle.tp_slots.specs.News.{new_items}
@@ -38,7 +38,7 @@ due_is_bare env (plain.bare l) h = tt
 due_is_bare env (plain.holds k r q) h = absurd h
 due_is_bare env (plain.gone by) h = absurd h
 
-module _ (t next : ℕ) (old mid : List Slot) (taken : Phrase) (within : t < length old) (out : IsTakenOut t next old taken mid) where
+module _ (t next : ℕ) (old mid : List Slot) (taken : BoundFormula) (within : t < length old) (out : IsTakenOut t next old taken mid) where
   emptied : slot_in mid t ≡ slot_with (slot_in old t) (Gone next 1)
   emptied = ap (λ xs. slot_in xs t) out.slots ∙ get_or-set_same old t (slot_with (slot_in old t) (Gone next 1)) (record { home = 0; after = None; what = Gone 0 0 }) within
 
@@ -48,15 +48,15 @@ module _ (t next : ℕ) (old mid : List Slot) (taken : Phrase) (within : t < len
       let same : slot_with (slot_in mid t) (Leaf (Do taken)) ≡ x = ap (λ y. slot_with y (Leaf (Do taken))) emptied ∙ sym out.was in
       is ∙ ap (slice_set mid t) same ∙ ap (λ xs. slice_set xs t x) out.slots ∙ set-set old t (slot_with x (Gone next 1)) x ∙ set-get_or old t (record { home = 0; after = None; what = Gone 0 0 })
 
-  module _ (phrase : Phrase) (new : List Slot) (is : new ≡ mid ++ slot_with (slot_in mid t) (Leaf (Do phrase)) ∷ []) where
+  module _ (bound : BoundFormula) (new : List Slot) (is : new ≡ mid ++ slot_with (slot_in mid t) (Leaf (Do bound)) ∷ []) where
     -- one item more, where that one was
-    pub more_slots : map slot_of new ≡ gone_at (map slot_of old) t (next ∷ []) ++ record { home = home_in (map slot_of old) t; what = plain.bare (S.Do (formula_of phrase) (env_of phrase)) } ∷ []
+    pub more_slots : map slot_of new ≡ gone_at (map slot_of old) t (next ∷ []) ++ record { home = home_in (map slot_of old) t; what = plain.bare (S.Do (formula_of bound) (env_of bound)) } ∷ []
     more_slots =
         let d : Slot = record { home = 0; after = None; what = Gone 0 0 } in
-        let due = plain.bare (S.Do (formula_of phrase) (env_of phrase)) in
+        let due = plain.bare (S.Do (formula_of bound) (env_of bound)) in
         let gone : map slot_of mid ≡ gone_at (map slot_of old) t (next ∷ []) = ap (map slot_of) out.slots ∙ gone_is old t d (Gone next 1) (next ∷ []) within refl in
         let home : (slot_in mid t).home ≡ home_in (map slot_of old) t = ap (λ (x : Slot). x.home) emptied ∙ home_is old t d within in
-        ap (map slot_of) is ∙ map-append slot_of mid (slot_with (slot_in mid t) (Leaf (Do phrase)) ∷ []) ∙ (λ i. gone i ++ record { home = home i; what = due } ∷ [])
+        ap (map slot_of) is ∙ map-append slot_of mid (slot_with (slot_in mid t) (Leaf (Do bound)) ∷ []) ∙ (λ i. gone i ++ record { home = home i; what = due } ∷ [])
 
     pub more_afters : map (λ (x : Slot). x.after) new ≡ map (λ (x : Slot). x.after) old ++ after_at (map (λ (x : Slot). x.after) old) t ∷ []
     more_afters =
@@ -64,20 +64,20 @@ module _ (t next : ℕ) (old mid : List Slot) (taken : Phrase) (within : t < len
         let after : Slot → Option ℕ = λ x. x.after in
         let all : map after mid ≡ map after old = ap (map after) out.slots ∙ after_is old t d (Gone next 1) within in
         let one : (slot_in mid t).after ≡ after_at (map after old) t = ap after emptied ∙ sym (get_or-map after old t d None within) in
-        ap (map after) is ∙ map-append after mid (slot_with (slot_in mid t) (Leaf (Do phrase)) ∷ []) ∙ (λ i. all i ++ one i ∷ [])
+        ap (map after) is ∙ map-append after mid (slot_with (slot_in mid t) (Leaf (Do bound)) ∷ []) ∙ (λ i. all i ++ one i ∷ [])
 
 -- where room was made before
-pub out_before : (s r : Scene) (t k : ℕ) (taken : Phrase) (mid : List Slot) → IsUnchanged s r → IsTakenOut t k r.slots.items taken mid → IsTakenOut t k s.slots.items taken mid
+pub out_before : (s r : Scene) (t k : ℕ) (taken : BoundFormula) (mid : List Slot) → IsUnchanged s r → IsTakenOut t k r.slots.items taken mid → IsTakenOut t k s.slots.items taken mid
 out_before s r t k taken mid same out = subst (λ xs. IsTakenOut t k xs taken mid) same.slots out
 
 -- nothing was changed in the end
-pub back_unchanged : (s new : Scene) (t k : ℕ) (taken : Phrase) (mid : List Slot) → IsWellKept s → Lives s t → IsTakenOut t k s.slots.items taken mid → new.slots.items ≡ slice_set mid t (slot_with (slot_in mid t) (Leaf (Do taken))) → new.regions.items ≡ s.regions.items → IsUnchanged s new
+pub back_unchanged : (s new : Scene) (t k : ℕ) (taken : BoundFormula) (mid : List Slot) → IsWellKept s → Lives s t → IsTakenOut t k s.slots.items taken mid → new.slots.items ≡ slice_set mid t (slot_with (slot_in mid t) (Leaf (Do taken))) → new.regions.items ≡ s.regions.items → IsUnchanged s new
 back_unchanged s new t k taken mid kept lives out slots regions = record {
   slots = all_back t k s.slots.items mid taken (lives_within s t kept.shape.ordered lives) out new.slots.items slots;
   regions = regions;
 }
 
-module _ (s : Scene) (t k : ℕ) (taken : Phrase) (mid : List Slot) (kept : IsWellKept s) (lives : Lives s t) (out : IsTakenOut t k s.slots.items taken mid) where
+module _ (s : Scene) (t k : ℕ) (taken : BoundFormula) (mid : List Slot) (kept : IsWellKept s) (lives : Lives s t) (out : IsTakenOut t k s.slots.items taken mid) where
   -- the bindings of what was taken out
   pub env_there : (env : S.Bindings) → IsDueUnder env (item_what s t) → env ≡ env_of taken
   env_there env due =
@@ -85,17 +85,17 @@ module _ (s : Scene) (t k : ℕ) (taken : Phrase) (mid : List Slot) (kept : IsWe
       let same : IsDueUnder env (plain.bare (S.Do (formula_of taken) (env_of taken))) = subst (IsDueUnder env) is due in
       same
 
-  module _ (free : IsBare (item_what s t)) (number : k ≡ length s.slots.items) (phrase : Phrase) (next : Scene) (items : next.slots.items ≡ mid ++ slot_with (slot_in mid t) (Leaf (Do phrase)) ∷ [])
+  module _ (free : IsBare (item_what s t)) (number : k ≡ length s.slots.items) (bound : BoundFormula) (next : Scene) (items : next.slots.items ≡ mid ++ slot_with (slot_in mid t) (Leaf (Do bound)) ∷ [])
       (regions : next.regions.items ≡ s.regions.items) where
     within : t < length s.slots.items
     within = lives_within s t kept.shape.ordered lives
 
-    slots : slots_of next ≡ stepped (slots_of s) t None [] (plain.bare (S.Do (formula_of phrase) (env_of phrase)) ∷ [])
+    slots : slots_of next ≡ stepped (slots_of s) t None [] (plain.bare (S.Do (formula_of bound) (env_of bound)) ∷ [])
     slots =
-        let due = plain.bare (S.Do (formula_of phrase) (env_of phrase)) in
+        let due = plain.bare (S.Do (formula_of bound) (env_of bound)) in
         let all : List plain.Slot = map slot_of next.slots.items in
         (λ i. record { slots = all; regions = map region_slot_of (regions i) })
-        ∙ one_stepped (slots_of s) t k due all (more_slots t k s.slots.items mid taken within out phrase next.slots.items items) (number ∙ sym (length-map s.slots.items slot_of))
+        ∙ one_stepped (slots_of s) t k due all (more_slots t k s.slots.items mid taken within out bound next.slots.items items) (number ∙ sym (length-map s.slots.items slot_of))
 
     holders : holders_of next ≡ holders_of s
     holders = ap (map (λ (x : Region). x.holder)) regions
@@ -108,11 +108,11 @@ module _ (s : Scene) (t k : ℕ) (taken : Phrase) (mid : List Slot) (kept : IsWe
 
     pub more_kept : next.looks ≡ s.looks → IsWellKept next
     more_kept looks =
-        unmarked_leaves_kept s t (plain.bare (S.Do (formula_of phrase) (env_of phrase)) ∷ []) kept lives free (tt, tt) next slots holders ends goes looks
-        (more_afters t k s.slots.items mid taken within out phrase next.slots.items items)
+        unmarked_leaves_kept s t (plain.bare (S.Do (formula_of bound) (env_of bound)) ∷ []) kept lives free (tt, tt) next slots holders ends goes looks
+        (more_afters t k s.slots.items mid taken within out bound next.slots.items items)
 
-    pub more_scene : scene_of next ≡ scene_after t (becomes_leaves (scene_of s) (plain.bare (S.Do (formula_of phrase) (env_of phrase)) ∷ []) None) (scene_of s)
-    more_scene = unmarked_leaves_scene s t (plain.bare (S.Do (formula_of phrase) (env_of phrase)) ∷ []) kept lives free (tt, tt) next slots holders ends goes
+    pub more_scene : scene_of next ≡ scene_after t (becomes_leaves (scene_of s) (plain.bare (S.Do (formula_of bound) (env_of bound)) ∷ []) None) (scene_of s)
+    more_scene = unmarked_leaves_scene s t (plain.bare (S.Do (formula_of bound) (env_of bound)) ∷ []) kept lives free (tt, tt) next slots holders ends goes
 
     pub more_news : new_items (scene_of s) (scene_of next) ≡ length (slots_of s).slots ∷ []
-    more_news = unmarked_leaves_news s t (plain.bare (S.Do (formula_of phrase) (env_of phrase)) ∷ []) kept lives free (tt, tt) next slots holders ends goes
+    more_news = unmarked_leaves_news s t (plain.bare (S.Do (formula_of bound) (env_of bound)) ∷ []) kept lives free (tt, tt) next slots holders ends goes

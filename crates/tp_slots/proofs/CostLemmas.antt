@@ -7,14 +7,14 @@ use Rattle.tp_slots.specs.Plain.{IsOrdered, slot_at, region_slot}
 use Rattle.tp_slots.specs.Walk.{visits}
 use Rattle.tp_slots.specs.Cost.{second_cost, what_cost, cost_of, cost_at, task_cost, tasks_cost}
 use Rattle.tp_slots.specs.Read.{slot_of, region_slot_of, slots_of}
-use Rattle.tp_slots.specs.declared.walk.Task.{Task}
-use Rattle.tp_slots.specs.declared.walk.Task.TheVariants.{Tell}
+use Rattle.tp_slots.specs.declared.walk.WalkTask.{WalkTask}
+use Rattle.tp_slots.specs.declared.walk.WalkTask.TheVariants.{Tell}
 use Rattle.tp_slots.proofs.Costs.{item_cost, roots_cost, cost_append, cost_visits}
 use Rattle.tp_slots.proofs.WalkLemmas.{roots_are}
 use Rattle.tp_slots.specs.declared.scene.Scene.{Scene}
 use Rattle.tp_slots.specs.declared.scene.Region.{Region}
 
-pub region_tasks : (s : Scene) (r : ℕ) (x : Region) (old new : List Task) → IsOrdered (slots_of s) → r < length s.regions.items → x ≡ get_or s.regions.items r x → new ≡ old ++ visits x.roots.items
+pub region_tasks : (s : Scene) (r : ℕ) (x : Region) (old new : List WalkTask) → IsOrdered (slots_of s) → r < length s.regions.items → x ≡ get_or s.regions.items r x → new ≡ old ++ visits x.roots.items
     → tasks_cost (slots_of s) new ≡ cost_at (slots_of s) r + tasks_cost (slots_of s) old
 region_tasks s r x old new sound l e f =
     let n = length-map s.regions.items region_slot_of in
@@ -24,7 +24,7 @@ region_tasks s r x old new sound l e f =
     let d = roots_cost (slots_of s) sound r (omega (arith, n, l)) in
     omega (arith, a, b, c, d)
 
-pub enter_tasks : (s : Scene) (r t : ℕ) (x : Region) (old mid new : List Task) → IsOrdered (slots_of s) → r < length s.regions.items → x ≡ get_or s.regions.items r x → mid ≡ old ++ Tell t ∷ [] → new ≡ mid ++ visits x.roots.items
+pub enter_tasks : (s : Scene) (r t : ℕ) (x : Region) (old mid new : List WalkTask) → IsOrdered (slots_of s) → r < length s.regions.items → x ≡ get_or s.regions.items r x → mid ≡ old ++ Tell t ∷ [] → new ≡ mid ++ visits x.roots.items
     → tasks_cost (slots_of s) new ≡ suc (cost_at (slots_of s) r + tasks_cost (slots_of s) old)
 enter_tasks s r t x old mid new sound l e f g =
     let a = region_tasks s r x mid new sound l e g in
@@ -47,7 +47,7 @@ held_less s t k r q w left new sound a e f l =
     let d = ap (what_cost (cost_at (slots_of s)) (cost_of (slots_of s))) f in
     omega (arith, c, d, l)
 
-pub gone_less : (s : Scene) (t : ℕ) (by : List ℕ) (w : plain.What) (old new : List Task) → IsOrdered (slots_of s) → t < length s.slots.items → w ≡ (slot_at (slots_of s) t).what → w ≡ plain.gone by → new ≡ old ++ visits by
+pub gone_less : (s : Scene) (t : ℕ) (by : List ℕ) (w : plain.What) (old new : List WalkTask) → IsOrdered (slots_of s) → t < length s.slots.items → w ≡ (slot_at (slots_of s) t).what → w ≡ plain.gone by → new ≡ old ++ visits by
     → tasks_cost (slots_of s) new < cost_of (slots_of s) t + tasks_cost (slots_of s) old
 gone_less s t by w old new sound a e f g =
     let c = less s t w sound a e in
@@ -56,5 +56,5 @@ gone_less s t by w old new sound a e f g =
     let h = cost_visits (slots_of s) by in
     omega (arith, b, c, d, h)
 
-pub popped_cost : (s : Scene) (x : Task) (old new : List Task) → old ≡ new ++ x ∷ [] → tasks_cost (slots_of s) old ≡ task_cost (slots_of s) x + tasks_cost (slots_of s) new
+pub popped_cost : (s : Scene) (x : WalkTask) (old new : List WalkTask) → old ≡ new ++ x ∷ [] → tasks_cost (slots_of s) old ≡ task_cost (slots_of s) x + tasks_cost (slots_of s) new
 popped_cost s x old new e = let a = ap (tasks_cost (slots_of s)) e ∙ cost_append (slots_of s) new (x ∷ []) in omega (arith, a)

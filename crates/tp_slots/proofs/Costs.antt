@@ -4,8 +4,8 @@ use Rattle.tp_scene.specs.Scene.{Holder}
 use Rattle.tp_slots.specs.Plain.{What, bare, holds, gone, Slots, slot_at, region_slot, AreIn, SecondFits, WhatFits, IsOrdered}
 use Rattle.tp_slots.specs.Walk.{visits}
 use Rattle.tp_slots.specs.Cost.{sum_over, second_cost, what_cost, cost_in, region_cost, cost_of, cost_at, tasks_cost}
-use Rattle.tp_slots.specs.declared.walk.Task.{Task}
-use Rattle.tp_slots.specs.declared.walk.Task.TheVariants.{Visit}
+use Rattle.tp_slots.specs.declared.walk.WalkTask.{WalkTask}
+use Rattle.tp_slots.specs.declared.walk.WalkTask.TheVariants.{Visit}
 
 module _ (s : Slots) (sound : IsOrdered s) where
   sum_same : (each each' : ℕ → ℕ) (from home : ℕ) (ids : List ℕ) → AreIn s from home ids → ((w : ℕ) → from ≤ w → w < length s.slots → (slot_at s w).home ≡ home → each w ≡ each' w) → sum_over each ids ≡ sum_over each' ids
@@ -57,7 +57,7 @@ module _ (s : Slots) (sound : IsOrdered s) where
           ∙ sum_same (cost_in s (region_cost s n) (length s.slots)) (cost_of s) 0 r (region_slot s r).roots (sound.regions r l)
           (λ w z j k. item_same n (length s.regions) r (λ p c i. region_same n (length s.regions) p (omega (arith, e, c)) (omega arith) i) (length s.slots) (length s.slots) w (omega arith) (omega arith) j k)
 
-pub cost_append : (s : Slots) (xs ys : List Task) → tasks_cost s (xs ++ ys) ≡ tasks_cost s xs + tasks_cost s ys
+pub cost_append : (s : Slots) (xs ys : List WalkTask) → tasks_cost s (xs ++ ys) ≡ tasks_cost s xs + tasks_cost s ys
 cost_append s [] ys = omega arith
 cost_append s (x ∷ xs) ys = let q = cost_append s xs ys in omega (arith, q)
 

@@ -9,8 +9,8 @@ use Rattle.tp_slots.specs.Plain as plain
 use Rattle.tp_slots.specs.Plain.{IsOrdered, WhatFits, slot_at, region_slot, entries_at}
 use Rattle.tp_slots.specs.Walk.{live_of, live_in, told_by, todo, visits, IsTask, AreTasks}
 use Rattle.tp_slots.specs.Read.{slot_of, region_slot_of, slots_of}
-use Rattle.tp_slots.specs.declared.walk.Task.{Task}
-use Rattle.tp_slots.specs.declared.walk.Task.TheVariants.{Tell}
+use Rattle.tp_slots.specs.declared.walk.WalkTask.{WalkTask}
+use Rattle.tp_slots.specs.declared.walk.WalkTask.TheVariants.{Tell}
 use Rattle.tp_slots.proofs.Walking.{region_live, bare_live, gone_live, holder_live, todo_append, todo_visits, tasks_append, tasks_visits, tasks_front, tasks_back}
 use Rattle.tp_slots.specs.declared.scene.Scene.{Scene}
 use Rattle.tp_slots.specs.declared.scene.Region.{Region}
@@ -19,7 +19,7 @@ pub roots_are : (s : Scene) (r : ℕ) (x : Region) → r < length s.regions.item
 roots_are s r x l e = ap (λ (y : Region). y.roots.items) e ∙ ap (λ (y : plain.RegionSlot). y.roots) (sym (get_or-map region_slot_of s.regions.items r x (record { ends = false; goes = false; roots = [] }) l))
 
 -- the items of a region are to be visited, before what was to be done
-pub region_todo : (s : Scene) (r : ℕ) (x : Region) (old new : List Task) → IsOrdered (slots_of s) → r < length s.regions.items → x ≡ get_or s.regions.items r x → AreTasks (slots_of s) old → new ≡ old ++ visits x.roots.items
+pub region_todo : (s : Scene) (r : ℕ) (x : Region) (old new : List WalkTask) → IsOrdered (slots_of s) → r < length s.regions.items → x ≡ get_or s.regions.items r x → AreTasks (slots_of s) old → new ≡ old ++ visits x.roots.items
     → (todo (slots_of s) new ≡ live_items (entries_at (slots_of s) r) ++ todo (slots_of s) old) × AreTasks (slots_of s) new
 region_todo s r x old new sound l e t f =
     let n = length-map s.regions.items region_slot_of in
@@ -29,7 +29,7 @@ region_todo s r x old new sound l e t f =
       subst (AreTasks (slots_of s)) (sym g) (tasks_append (slots_of s) old (visits (region_slot (slots_of s) r).roots) t (tasks_visits (slots_of s) 0 r (region_slot (slots_of s) r).roots (sound.regions r within))),
     )
 
-pub enter_todo : (s : Scene) (r t : ℕ) (x : Region) (old mid new : List Task) → IsOrdered (slots_of s) → r < length s.regions.items → x ≡ get_or s.regions.items r x → AreTasks (slots_of s) old → mid ≡ old ++ Tell t ∷ [] → new ≡ mid ++ visits x.roots.items
+pub enter_todo : (s : Scene) (r t : ℕ) (x : Region) (old mid new : List WalkTask) → IsOrdered (slots_of s) → r < length s.regions.items → x ≡ get_or s.regions.items r x → AreTasks (slots_of s) old → mid ≡ old ++ Tell t ∷ [] → new ≡ mid ++ visits x.roots.items
     → (todo (slots_of s) new ≡ live_items (entries_at (slots_of s) r) ++ t ∷ todo (slots_of s) old) × AreTasks (slots_of s) new
 enter_todo s r t x old mid new sound l e a f g =
     let b : AreTasks (slots_of s) mid = subst (AreTasks (slots_of s)) (sym f) (tasks_append (slots_of s) old (Tell t ∷ []) a (tt, tt)) in
@@ -63,7 +63,7 @@ held_within s t k r q w sound a e f =
     let l = fits.0.1 in
     omega (arith, m, l)
 
-pub gone_told : (s : Scene) (t : ℕ) (by : List ℕ) (w : plain.What) (old new : List Task) → IsOrdered (slots_of s) → t < length s.slots.items → w ≡ (slot_at (slots_of s) t).what → w ≡ plain.gone by → AreTasks (slots_of s) old → new ≡ old ++ visits by
+pub gone_told : (s : Scene) (t : ℕ) (by : List ℕ) (w : plain.What) (old new : List WalkTask) → IsOrdered (slots_of s) → t < length s.slots.items → w ≡ (slot_at (slots_of s) t).what → w ≡ plain.gone by → AreTasks (slots_of s) old → new ≡ old ++ visits by
     → (todo (slots_of s) new ≡ live_of (slots_of s) t ++ todo (slots_of s) old) × AreTasks (slots_of s) new
 gone_told s t by w old new sound a e f o g =
     let n = length-map s.slots.items slot_of in
@@ -74,7 +74,7 @@ gone_told s t by w old new sound a e f o g =
       subst (AreTasks (slots_of s)) (sym g) (tasks_append (slots_of s) old (visits by) o (tasks_visits (slots_of s) (suc t) (slot_at (slots_of s) t).home by fits)),
     )
 
-pub popped : (s : Scene) (x : Task) (old new : List Task) → old ≡ new ++ x ∷ [] → AreTasks (slots_of s) old → (todo (slots_of s) old ≡ told_by (slots_of s) x ++ todo (slots_of s) new) × IsTask (slots_of s) x × AreTasks (slots_of s) new
+pub popped : (s : Scene) (x : WalkTask) (old new : List WalkTask) → old ≡ new ++ x ∷ [] → AreTasks (slots_of s) old → (todo (slots_of s) old ≡ told_by (slots_of s) x ++ todo (slots_of s) new) × IsTask (slots_of s) x × AreTasks (slots_of s) new
 popped s x old new e a =
     let b = subst (AreTasks (slots_of s)) e a in
     (ap (todo (slots_of s)) e ∙ todo_append (slots_of s) new (x ∷ []), (tasks_back (slots_of s) new (x ∷ []) b).0, tasks_front (slots_of s) new (x ∷ []) b)

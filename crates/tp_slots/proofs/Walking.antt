@@ -5,8 +5,8 @@ use Rattle.tp_scene.specs.Scene.{Leaf, Holder, Entries, none, leaf, node, append
 use Rattle.tp_scene.specs.LiveItems.{live_items}
 use Rattle.tp_slots.specs.Plain.{What, bare, holds, gone, Slots, slot_at, region_slot, second_of, in_order, of_what, item_entries, region_entries, entries_at, AreIn, WhatFits, IsOrdered}
 use Rattle.tp_slots.specs.Walk.{item_front, live_of, live_in, told_by, todo, visits, AreTasks}
-use Rattle.tp_slots.specs.declared.walk.Task.{Task}
-use Rattle.tp_slots.specs.declared.walk.Task.TheVariants.{Visit}
+use Rattle.tp_slots.specs.declared.walk.WalkTask.{WalkTask}
+use Rattle.tp_slots.specs.declared.walk.WalkTask.TheVariants.{Visit}
 use Rattle.tp_slots.proofs.Same.{item_enough}
 
 pub live_append : (xs ys : Entries) → live_items (append xs ys) ≡ live_items xs ++ live_items ys
@@ -89,7 +89,7 @@ module _ (s : Slots) (sound : IsOrdered s) where
       ap live_items (item_is t none a ∙ ap (λ w. of_what s (entries_at s) (item_front s) t w none) e)
       ∙ ap (λ ns. (only_if (second_lives k) (live_items (second_of (entries_at s) q)) ++ ns) ++ t ∷ []) (region_live r f.0.1)
 
-pub todo_append : (s : Slots) (xs ys : List Task) → todo s (xs ++ ys) ≡ todo s ys ++ todo s xs
+pub todo_append : (s : Slots) (xs ys : List WalkTask) → todo s (xs ++ ys) ≡ todo s ys ++ todo s xs
 todo_append s [] ys = sym (append-nil (todo s ys))
 todo_append s (x ∷ xs) ys = ap (λ ns. ns ++ told_by s x) (todo_append s xs ys) ∙ append_assoc (todo s ys) (todo s xs) (told_by s x)
 
@@ -97,7 +97,7 @@ pub todo_visits : (s : Slots) (ids : List ℕ) → todo s (visits ids) ≡ live_
 todo_visits s [] = refl
 todo_visits s (t ∷ ts) = todo_append s (visits ts) (Visit t ∷ []) ∙ ap (λ ns. live_of s t ++ ns) (todo_visits s ts)
 
-pub tasks_append : (s : Slots) (xs ys : List Task) → AreTasks s xs → AreTasks s ys → AreTasks s (xs ++ ys)
+pub tasks_append : (s : Slots) (xs ys : List WalkTask) → AreTasks s xs → AreTasks s ys → AreTasks s (xs ++ ys)
 tasks_append s [] ys a b = b
 tasks_append s (x ∷ xs) ys a b = (a.0, tasks_append s xs ys a.1 b)
 
@@ -105,10 +105,10 @@ pub tasks_visits : (s : Slots) (from home : ℕ) (ids : List ℕ) → AreIn s fr
 tasks_visits s from home [] a = tt
 tasks_visits s from home (t ∷ ts) a = tasks_append s (visits ts) (Visit t ∷ []) (tasks_visits s from home ts a.3) (a.1, tt)
 
-pub tasks_front : (s : Slots) (xs ys : List Task) → AreTasks s (xs ++ ys) → AreTasks s xs
+pub tasks_front : (s : Slots) (xs ys : List WalkTask) → AreTasks s (xs ++ ys) → AreTasks s xs
 tasks_front s [] ys a = tt
 tasks_front s (x ∷ xs) ys a = (a.0, tasks_front s xs ys a.1)
 
-pub tasks_back : (s : Slots) (xs ys : List Task) → AreTasks s (xs ++ ys) → AreTasks s ys
+pub tasks_back : (s : Slots) (xs ys : List WalkTask) → AreTasks s (xs ++ ys) → AreTasks s ys
 tasks_back s [] ys a = a
 tasks_back s (x ∷ xs) ys a = tasks_back s xs ys a.1

@@ -4,7 +4,7 @@ use Rattle.tp_meaning.specs.Syntax.{place_binding}
 use Rattle.tp_scene.specs.Scene as S
 use Rattle.tp_scene.specs.Scene.{Bindings}
 use Rattle.tp_decide.specs.declared.decision.Leaf.TheVariants as leaf
-use Rattle.tp_decide.specs.declared.phrase.Phrase.{Phrase}
+use Rattle.tp_decide.specs.declared.bound_formula.BoundFormula.{BoundFormula}
 use Rattle.tp_slots.specs.Plain as plain
 use Rattle.tp_slots.specs.declared.scene.Slot.{Slot}
 use Rattle.tp_slots.specs.declared.scene.What.{What}
@@ -31,7 +31,8 @@ slot_in xs t = get_or xs t (record { home = 0; after = None; what = what.Gone 0 
 abbrev pub slot_with : Slot → What → Slot
 slot_with x w = record { home = x.home; after = x.after; what = w }
 
--- The phrase was taken out of the slot of the item t; the item `next` stands in its place.
-pub record IsTakenOut (t next : ℕ) (old : List Slot) (x : Phrase) (new : List Slot) : Type 0 where
+-- The formula was taken out of the slot of the item t; the item `next` stands in its place.
+pub record IsTakenOut (t next : ℕ) (old : List Slot) (x : BoundFormula) (new : List Slot)
+    : Type 0 where
   pub was : slot_in old t ≡ slot_with (slot_in old t) (what.Leaf (leaf.Do x))
   pub slots : new ≡ slice_set old t (slot_with (slot_in old t) (what.Gone next 1))

@@ -3,8 +3,8 @@ use Rattle.std.specs.Prelude.{ℕ, zero, suc, ◌+◌, List, [], ◌∷◌, leng
 use Rattle.tp_slots.specs.Plain.{What, bare, holds, gone, Slots, slot_at, region_slot}
 use Rattle.tp_slots.specs.Read.{slots_of}
 use Rattle.tp_slots.specs.declared.scene.Scene.{Scene}
-use Rattle.tp_slots.specs.declared.walk.Task.{Task}
-use Rattle.tp_slots.specs.declared.walk.Task.TheVariants.{Visit, Tell}
+use Rattle.tp_slots.specs.declared.walk.WalkTask.{WalkTask}
+use Rattle.tp_slots.specs.declared.walk.WalkTask.TheVariants.{Visit, Tell}
 
 abbrev pub sum_over : (ℕ → ℕ) → List ℕ → ℕ
 sum_over cost [] = 0
@@ -34,14 +34,14 @@ cost_of s t = cost_in s (region_cost s (length s.regions)) (length s.slots) t
 abbrev pub cost_at : Slots → ℕ → ℕ
 cost_at s r = region_cost s (length s.regions) r
 
-abbrev pub task_cost : Slots → Task → ℕ
+abbrev pub task_cost : Slots → WalkTask → ℕ
 task_cost s (Visit t) = cost_of s t
 task_cost s (Tell t) = 1
 
-abbrev pub tasks_cost : Slots → List Task → ℕ
+abbrev pub tasks_cost : Slots → List WalkTask → ℕ
 tasks_cost s [] = 0
 tasks_cost s (x ∷ xs) = task_cost s x + tasks_cost s xs
 
 -- of the code's scene
-abbrev pub left_cost : Scene → List Task → ℕ
+abbrev pub left_cost : Scene → List WalkTask → ℕ
 left_cost s xs = tasks_cost (slots_of s) xs

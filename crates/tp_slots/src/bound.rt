@@ -4,7 +4,7 @@ ghost use Rattle.tp_kernel.specs.Read.{bindings_of};
 ghost use Rattle.tp_scene.specs.Scene as S;
 ghost use Rattle.tp_scene.specs.Pick.{HasAdded};
 ghost use Rattle.tp_decide.specs.declared.decision.Leaf.TheVariants as leaf;
-ghost use Rattle.tp_decide.specs.ReadPhrase.{env_of, formula_of};
+ghost use Rattle.tp_decide.specs.ReadBound.{env_of, formula_of};
 ghost use Rattle.tp_slots.specs.Bound.{IsDueUnder, IsTakenOut, bound_last, slot_in, slot_with};
 ghost use Rattle.tp_slots.specs.Kept.{HasRoomFor, IsReducedTo, IsUnchanged, IsWellKept, Lives};
 ghost use Rattle.tp_slots.specs.News.{new_items};
@@ -20,13 +20,13 @@ use smallvec::SmallVec;
 use std::alloc::Global;
 use std::mem;
 use std::rc::Rc;
-use tp_decide::{Leaf, Phrase, bind_last};
+use tp_decide::{BoundFormula, Leaf, bind_last};
 use tp_kernel::{Binding, Env};
 use tp_store::Store;
 use tp_value::{Indices, NoMemory, Path, Text, VarId};
 
-// Takes the phrase of a due item out of its slot, for the item `next`, which is to stand in its place.
-fn take_due(scene: &mut Scene, item: u64, next: u64) -> Phrase
+// Takes the formula of a due item out of its slot, for the item `next`, which is to stand in its place.
+fn take_due(scene: &mut Scene, item: u64, next: u64) -> BoundFormula
     requires item { item < length scene.old.slots.items }
     requires due { (env : S.Bindings) × IsDueUnder env (item_what scene.old item) }
     ensures taken { IsTakenOut item next scene.old.slots.items result scene.new.slots.items }
@@ -38,30 +38,30 @@ fn take_due(scene: &mut Scene, item: u64, next: u64) -> Phrase
         first: next,
         count: 1,
     };
-    let What::Leaf(Leaf::Do(phrase)) = mem::replace(&mut scene.slots[item as usize].what, gone)
+    let What::Leaf(Leaf::Do(bound)) = mem::replace(&mut scene.slots[item as usize].what, gone)
     else {
         unreachable!();
     };
-    phrase
+    bound
 }
 
-// The phrase is due again.
-fn put_back(scene: &mut Scene, item: u64, phrase: Phrase)
+// The formula is due again.
+fn put_back(scene: &mut Scene, item: u64, bound: BoundFormula)
     requires { item < length scene.old.slots.items }
     ensures slots { scene.new.slots.items ≡ slice_set scene.old.slots.items item
-        (slot_with (slot_in scene.old.slots.items item) (what.Leaf (leaf.Do phrase))) }
+        (slot_with (slot_in scene.old.slots.items item) (what.Leaf (leaf.Do bound))) }
     ensures regions { scene.new.regions ≡ scene.old.regions }
     ensures looks { scene.new.looks ≡ scene.old.looks }
 {
-    scene.slots[item as usize].what = What::Leaf(Leaf::Do(phrase));
+    scene.slots[item as usize].what = What::Leaf(Leaf::Do(bound));
 }
 
 // An item more, which stands and is visited where the other one was. There is room for it.
-fn push_due(scene: &mut Scene, item: u64, phrase: Phrase)
+fn push_due(scene: &mut Scene, item: u64, bound: BoundFormula)
     requires item { item < length scene.old.slots.items }
     requires room { HasRoomFor 1 scene.old }
     ensures slots { scene.new.slots.items ≡ scene.old.slots.items
-        ++ slot_with (slot_in scene.old.slots.items item) (what.Leaf (leaf.Do phrase)) ∷ [] }
+        ++ slot_with (slot_in scene.old.slots.items item) (what.Leaf (leaf.Do bound)) ∷ [] }
     ensures regions { scene.new.regions ≡ scene.old.regions }
     ensures looks { scene.new.looks ≡ scene.old.looks }
 {
@@ -70,7 +70,7 @@ fn push_due(scene: &mut Scene, item: u64, phrase: Phrase)
     let slot = Slot {
         home,
         after,
-        what: What::Leaf(Leaf::Do(phrase)),
+        what: What::Leaf(Leaf::Do(bound)),
     };
     let Ok(()) = scene.slots.push(slot) else {
         unreachable!();
@@ -119,7 +119,7 @@ pub fn become_bound(
     alloc: Global,
     scene: &mut Scene,
     item: u64,
-    local: (Text, bool, Phrase),
+    local: (Text, bool, BoundFormula),
     store: &mut Store,
 ) -> Result<SmallVec<u64, 3>, NoMemory>
     requires kept { IsWellKept scene.old }
@@ -149,7 +149,7 @@ pub fn become_bound(
     match bind_local(alloc, &mut taken.env, &name, lasting, store) {
         Ok(()) => {
             let env = taken.env;
-            push_due(scene, item, Phrase { what, env });
+            push_due(scene, item, BoundFormula { what, env });
             Ok(fresh)
         }
         Err(NoMemory) => {

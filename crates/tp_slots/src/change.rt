@@ -2,7 +2,7 @@
 ghost use Rattle.std.specs.Prelude.{◌≡◌, ◌<◌, length, [], ◌∷◌, IfOk, OnOk, OnErr};
 ghost use Rattle.tp_meaning.specs.Syntax.{more};
 ghost use Rattle.tp_scene.specs.Scene.{has};
-ghost use Rattle.tp_decide.specs.ReadPhrase.{env_of, formula_of};
+ghost use Rattle.tp_decide.specs.ReadBound.{env_of, formula_of};
 ghost use Rattle.tp_slots.specs.News.{moved_news, new_items};
 ghost use Rattle.tp_slots.specs.Reductions.{CanMove, HoldsOne, IsAfter, IsBare, IsReduced, becomes_holder, becomes_opened, becomes_split, moved_inner, moved_outs};
 ghost use Rattle.tp_slots.specs.Read.{plain_holder, scene_of, slots_of, what_of, whats_of, item_what};
@@ -15,7 +15,7 @@ use crate::walk::items_inside;
 use smallvec::SmallVec;
 use std::alloc::Global;
 use std::rc::Rc;
-use tp_decide::{Leaf, Phrase};
+use tp_decide::{BoundFormula, Leaf};
 use tp_kernel::Formula;
 use tp_value::NoMemory;
 
@@ -34,7 +34,7 @@ fn become_holder(
     alloc: Global,
     scene: &mut Scene,
     item: u64,
-    first: Phrase,
+    first: BoundFormula,
     holder: Holder,
 ) -> Result<SmallVec<u64, 3>, NoMemory>
     requires kept { IsWellKept scene.old }
@@ -62,8 +62,8 @@ pub fn become_split(
     alloc: Global,
     scene: &mut Scene,
     item: u64,
-    first: Phrase,
-    after: Phrase,
+    first: BoundFormula,
+    after: BoundFormula,
 ) -> Result<SmallVec<u64, 3>, NoMemory>
     requires kept { IsWellKept scene.old }
     requires lives { Lives scene.old item }
@@ -87,8 +87,8 @@ pub fn become_opened(
     alloc: Global,
     scene: &mut Scene,
     item: u64,
-    first: Phrase,
-    piece: Phrase,
+    first: BoundFormula,
+    piece: BoundFormula,
 ) -> Result<SmallVec<u64, 3>, NoMemory>
     requires kept { IsWellKept scene.old }
     requires lives { Lives scene.old item }
@@ -106,24 +106,24 @@ pub fn become_opened(
     become_holder(alloc, scene, item, first, Holder::Opened { outer, piece })
 }
 
-/// The same phrase, shared.
-pub fn share(phrase: &Phrase) -> Result<Phrase, NoMemory>
-    ensures formula { IfOk result (λ a. formula_of a ≡ formula_of phrase.now) }
-    ensures env { IfOk result (λ a. env_of a ≡ env_of phrase.now) }
+/// The same formula and bindings, shared.
+pub fn share(bound: &BoundFormula) -> Result<BoundFormula, NoMemory>
+    ensures formula { IfOk result (λ a. formula_of a ≡ formula_of bound.now) }
+    ensures env { IfOk result (λ a. env_of a ≡ env_of bound.now) }
 {
-    let what = phrase.what.clone()?;
-    let env = phrase.env.clone()?;
-    Ok(Phrase { what, env })
+    let what = bound.what.clone()?;
+    let env = bound.env.clone()?;
+    Ok(BoundFormula { what, env })
 }
 
-// `More`, under the bindings of a phrase.
-fn more_under(alloc: Global, phrase: &Phrase) -> Result<Phrase, NoMemory>
+// `More`, under the bindings of this formula.
+fn more_under(alloc: Global, bound: &BoundFormula) -> Result<BoundFormula, NoMemory>
     ensures formula { IfOk result (λ a. formula_of a ≡ more) }
-    ensures env { IfOk result (λ a. env_of a ≡ env_of phrase.now) }
+    ensures env { IfOk result (λ a. env_of a ≡ env_of bound.now) }
 {
     let what = Rc::new(alloc, Formula::More)?;
-    let env = phrase.env.clone()?;
-    Ok(Phrase { what, env })
+    let env = bound.env.clone()?;
+    Ok(BoundFormula { what, env })
 }
 
 // Two items, in a list.

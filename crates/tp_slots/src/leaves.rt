@@ -221,7 +221,8 @@ pub fn place_leaves(scene: &mut Scene, item: u64, mark: Option<Side>, leaves: Le
     requires room { HasRoomFor (length (leaf_list leaves)) scene.old }
     ensures kept { IsWellKept scene.new }
     ensures scene { let reduction =
-        becomes_leaves (scene_of scene.old) (bare_leaves (leaf_list leaves)) (option_map mark_of mark)
+        becomes_leaves (scene_of scene.old) (bare_leaves (leaf_list leaves))
+        (option_map mark_of mark)
         in IsReducedTo item reduction scene.old scene.new }
     ensures news { new_items (scene_of scene.old) (scene_of scene.new)
         ≡ range_with_len (length scene.old.slots.items) (length (leaf_list leaves)) }

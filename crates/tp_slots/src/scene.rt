@@ -1,6 +1,6 @@
 // Scenes as slots by item number.
 use crate::looks::Looks;
-use tp_decide::{Leaf, Phrase};
+use tp_decide::{BoundFormula, Leaf};
 
 /// What a run has between the steps of a state: the items by number, the regions by number, and what was found of these. The root is region
 /// 0.
@@ -45,22 +45,22 @@ pub enum Mark {
 pub enum Holder {
     Split {
         left: u64,
-        after: Phrase,
+        after: BoundFormula,
     },
     SplitProject {
         left: u64,
         outer: u64,
-        piece: Phrase,
+        piece: BoundFormula,
     },
     Closed(u64),
     Opened {
         outer: u64,
-        piece: Phrase,
+        piece: BoundFormula,
     },
     Running {
         inner: u64,
         outer: u64,
-        piece: Phrase,
+        piece: BoundFormula,
     },
 }
 

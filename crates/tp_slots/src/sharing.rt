@@ -35,8 +35,9 @@ pub fn become_sharing(
     requires free { IsBare (item_what scene.old item) }
     requires variable { IsVariableOf store.old.variables target.0.var }
     ensures kept { IsWellKept scene.new }
-    ensures scene { let reduction = becomes_leaves (scene_of scene.old) (bare_leaves news.items) None in
-        OnOk result (IsReducedTo item reduction scene.old scene.new) }
+    ensures scene { let reduction =
+        becomes_leaves (scene_of scene.old) (bare_leaves news.items) None
+        in OnOk result (IsReducedTo item reduction scene.old scene.new) }
     ensures news { IfOk result (λ made.
         made.0.items ≡ new_items (scene_of scene.old) (scene_of scene.new)) }
     ensures facts { IfOk result (λ made.

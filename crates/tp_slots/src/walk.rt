@@ -14,25 +14,25 @@ use tp_value::NoMemory;
 
 /// A task of a walk: to visit an item, or to tell its number.
 #[derive(Drop)]
-enum Task {
+enum WalkTask {
     Visit(u64),
     Tell(u64),
 }
 
 // Adds tasks to visit the items, the first of them last.
-fn push_visits(stack: &mut Vec<Task>, items: &[u64]) -> Result<(), NoMemory>
+fn push_visits(stack: &mut Vec<WalkTask>, items: &[u64]) -> Result<(), NoMemory>
     ensures { OnOk result (stack.new.items ≡ stack.old.items ++ visits items.now) }
 {
     let mut left = items.len();
     while left > 0 {
         left -= 1;
-        stack.push(Task::Visit(items[left]))?;
+        stack.push(WalkTask::Visit(items[left]))?;
     }
     Ok(())
 }
 
 // The same for so many items from the first on.
-fn push_range(stack: &mut Vec<Task>, first: u64, count: u64) -> Result<(), NoMemory>
+fn push_range(stack: &mut Vec<WalkTask>, first: u64, count: u64) -> Result<(), NoMemory>
     requires { first + count < 2 ^ 64 }
     ensures { OnOk result (stack.new.items
         ≡ stack.old.items ++ visits (range_with_len first count)) }
@@ -40,13 +40,13 @@ fn push_range(stack: &mut Vec<Task>, first: u64, count: u64) -> Result<(), NoMem
     let mut left = count;
     while left > 0 {
         left -= 1;
-        stack.push(Task::Visit(first + left))?;
+        stack.push(WalkTask::Visit(first + left))?;
     }
     Ok(())
 }
 
 // Adds tasks to visit the items of a region that an item holds, and then to tell the item.
-fn enter(scene: &Scene, stack: &mut Vec<Task>, item: u64, region: u64) -> Result<(), NoMemory>
+fn enter(scene: &Scene, stack: &mut Vec<WalkTask>, item: u64, region: u64) -> Result<(), NoMemory>
     requires sound { IsOrdered (slots_of scene.now) }
     requires within { region < length scene.now.regions.items }
     requires tasks { AreTasks (slots_of scene.now) stack.old.items }
@@ -56,7 +56,7 @@ fn enter(scene: &Scene, stack: &mut Vec<Task>, item: u64, region: u64) -> Result
         ≡ live_inside scene.now region ++ item ∷ left_todo scene.now stack.old.items) }
     ensures tasks { OnOk result (AreTasks (slots_of scene.now) stack.new.items) }
 {
-    stack.push(Task::Tell(item))?;
+    stack.push(WalkTask::Tell(item))?;
     push_visits(stack, scene.regions[region as usize].roots.as_slice())?;
     Ok(())
 }
@@ -64,7 +64,7 @@ fn enter(scene: &Scene, stack: &mut Vec<Task>, item: u64, region: u64) -> Result
 // The same for a holder with a second region that is live: its items come first.
 fn enter_both(
     scene: &Scene,
-    stack: &mut Vec<Task>,
+    stack: &mut Vec<WalkTask>,
     item: u64,
     inner: u64,
     outer: u64,
@@ -92,7 +92,7 @@ fn enter_both(
 // Visits what stands in an item's slot.
 fn visit_what(
     scene: &Scene,
-    stack: &mut Vec<Task>,
+    stack: &mut Vec<WalkTask>,
     out: &mut Vec<u64>,
     item: u64,
     what: &What,
@@ -133,9 +133,9 @@ fn visit_what(
 // Does one task.
 fn perform(
     scene: &Scene,
-    stack: &mut Vec<Task>,
+    stack: &mut Vec<WalkTask>,
     out: &mut Vec<u64>,
-    task: Task,
+    task: WalkTask,
 ) -> Result<(), NoMemory>
     requires sound { IsOrdered (slots_of scene.now) }
     requires task { IsTask (slots_of scene.now) task }
@@ -149,11 +149,11 @@ fn perform(
     ensures tasks { OnOk result (AreTasks (slots_of scene.now) stack.new.items) }
 {
     match task {
-        Task::Visit(item) => {
+        WalkTask::Visit(item) => {
             visit_what(scene, stack, out, item, &scene.slots[item as usize].what)?;
             Ok(())
         }
-        Task::Tell(item) => {
+        WalkTask::Tell(item) => {
             out.push(item)?;
             Ok(())
         }

@@ -22,7 +22,7 @@ use Rattle.tp_scene.specs.Step.{region_limit, PickOutcome, reduces, waits, rests
 use Rattle.tp_decide.specs.declared.decision.Decision.{Decision}
 use Rattle.tp_decide.specs.declared.decision.Decision.TheVariants as decision
 use Rattle.tp_decide.specs.Decided.{decided_outcome}
-use Rattle.tp_decide.specs.ReadPhrase.{env_of}
+use Rattle.tp_decide.specs.ReadBound.{env_of}
 use Rattle.tp_slots.specs.Plain.{bare}
 use Rattle.tp_step.specs.Chosen.{BindsThere}
 

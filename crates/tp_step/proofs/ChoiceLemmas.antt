@@ -72,7 +72,7 @@ module _ (w : Setting) (kinds : List Bool) (k : Contents) (s : Scene) (t : ℕ) 
       (_, leaf_there w.defs kinds k.variables (slots_of s) t 0 (entries_at (slots_of s) 0) (root_place (scene_of s).root) (all_shown (slots_of s) o 0 o.root) sound.moment.entries lives l is)
 
   pub phrase_fits : (f : FormulaTree) (env : Bindings) → item_what s t ≡ bare (S.Do f env) → FitsStore w.defs k.variables f env
-  phrase_fits f env is = record { kinds = kinds; phrase = (fits_there (S.Do f env) is).1; globals = sound.store.globals }
+  phrase_fits f env is = record { kinds = kinds; bound = (fits_there (S.Do f env) is).1; globals = sound.store.globals }
 
   pub shallow_there : IsShallow s t
   shallow_there =

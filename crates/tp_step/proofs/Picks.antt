@@ -3,7 +3,7 @@ use Rattle.std.proofs.Common.{◌≡◌, ℕ, suc, List, [], ◌∷◌, ◌++◌
 use Rattle.std.proofs.lemmas.List.{append-nil}
 use Rattle.tp_scene.specs.Step.{Reduction}
 use Rattle.tp_scene.specs.Pick.{Setting, Moment, Reduces, Leads}
-use Rattle.tp_step.specs.Closes.{Made}
+use Rattle.tp_step.specs.Closes.{LedByPicks}
 
 -- what holds, holds where it is refused
 pub on_refusal : {T E : Type 0} (r : Result T E) {P : Type 0} → P → OnErr r P
@@ -20,10 +20,10 @@ pub leads_on : (w : Setting) (m mid next : Moment) (ts us : List ℕ) → Leads 
 leads_on w m mid next [] us h g = subst (λ (z : Moment). Leads w z us next) h g
 leads_on w m mid next (t ∷ ts) us h g = (h.0, h.1, h.2, leads_on w h.1 mid next ts us h.3 g)
 
-pub made_none : (w : Setting) (m : Moment) (left : ℕ) (before : List ℕ) → Made w m m left left before before
+pub made_none : (w : Setting) (m : Moment) (left : ℕ) (before : List ℕ) → LedByPicks w m m left left before before
 made_none w m left before = record { picks = []; leads = refl; appended = sym (append-nil before); spent = omega arith }
 
-pub made_more : (w : Setting) (m mid next : Moment) (l0 l1 l2 : ℕ) (b0 b1 b2 : List ℕ) (t : ℕ) (r : Reduction) → Made w m mid l0 l1 b0 b1 → Reduces w mid t r next → l1 ≡ suc l2 → b2 ≡ b1 ++ t ∷ [] → Made w m next l0 l2 b0 b2
+pub made_more : (w : Setting) (m mid next : Moment) (l0 l1 l2 : ℕ) (b0 b1 b2 : List ℕ) (t : ℕ) (r : Reduction) → LedByPicks w m mid l0 l1 b0 b1 → Reduces w mid t r next → l1 ≡ suc l2 → b2 ≡ b1 ++ t ∷ [] → LedByPicks w m next l0 l2 b0 b2
 made_more w m mid next l0 l1 l2 b0 b1 b2 t r h g e a = record {
   picks = h.picks ++ t ∷ [];
   leads = leads_more w m mid next h.picks t r h.leads g;
@@ -31,7 +31,7 @@ made_more w m mid next l0 l1 l2 b0 b1 b2 t r h g e a = record {
   spent = omega (arith, h.spent, e, length-append h.picks (t ∷ []));
 }
 
-pub made_on : (w : Setting) (m mid next : Moment) (l0 l1 l2 : ℕ) (b0 b1 b2 : List ℕ) → Made w m mid l0 l1 b0 b1 → Made w mid next l1 l2 b1 b2 → Made w m next l0 l2 b0 b2
+pub made_on : (w : Setting) (m mid next : Moment) (l0 l1 l2 : ℕ) (b0 b1 b2 : List ℕ) → LedByPicks w m mid l0 l1 b0 b1 → LedByPicks w mid next l1 l2 b1 b2 → LedByPicks w m next l0 l2 b0 b2
 made_on w m mid next l0 l1 l2 b0 b1 b2 h g = record {
   picks = h.picks ++ g.picks;
   leads = leads_on w m mid next h.picks g.picks h.leads g.leads;

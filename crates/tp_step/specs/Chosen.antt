@@ -12,9 +12,9 @@ use Rattle.tp_decide.specs.declared.decision.Decision.{Decision}
 use Rattle.tp_decide.specs.declared.decision.Decision.TheVariants as decision
 use Rattle.tp_decide.specs.declared.holder.HolderDecision.{HolderDecision}
 use Rattle.tp_decide.specs.declared.holder.HolderKind.{HolderKind}
-use Rattle.tp_decide.specs.declared.phrase.Phrase.{Phrase}
+use Rattle.tp_decide.specs.declared.bound_formula.BoundFormula.{BoundFormula}
 use Rattle.tp_decide.specs.Decided.{decided_outcome}
-use Rattle.tp_decide.specs.ReadPhrase.{formula_of, env_of}
+use Rattle.tp_decide.specs.ReadBound.{formula_of, env_of}
 use Rattle.tp_decide.specs.Fits.{SetsVariables}
 use Rattle.tp_decide.specs.Holders.{IsOfKind, kind_of, holder_decided}
 use Rattle.tp_slots.specs.Bound.{IsDueUnder}
@@ -34,9 +34,9 @@ kind_in (bare l) = None
 kind_in (holds k r q) = Some (kind_of k)
 kind_in (gone by) = None
 
--- the phrase is what is due in a slot, or nothing is due there
-abbrev pub IsDueIn : What → Option Phrase → Type 0
-IsDueIn x (Some phrase) = x ≡ bare (Do (formula_of phrase) (env_of phrase))
+-- the formula is what is due in a slot, or nothing is due there
+abbrev pub IsDueIn : What → Option BoundFormula → Type 0
+IsDueIn x (Some bound) = x ≡ bare (Do (formula_of bound) (env_of bound))
 IsDueIn x None = (f : FormulaTree) (env : Bindings) → x ≡ bare (Do f env) → ⊥
 
 -- what a decision on it stands for

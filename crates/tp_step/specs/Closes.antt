@@ -27,7 +27,7 @@ ClosureEnds w left m (Over k) =
 
 -- Picks lead from one moment to another; they were appended to those before, and each took one of
 -- the reductions that were left.
-pub record Made (w : Setting) (m next : Moment) (left left' : ℕ)
+pub record LedByPicks (w : Setting) (m next : Moment) (left left' : ℕ)
     (before after : List ℕ) : Type 0 where
   pub picks : List ℕ
   pub leads : Leads w m picks next
@@ -39,7 +39,7 @@ pub record Made (w : Setting) (m next : Moment) (left left' : ℕ)
 pub record ClosureAnswers (w : Setting) (room : ℕ) (m next : Moment) (before after : List ℕ)
     (ending : Ending) : Type 0 where
   pub left : ℕ
-  pub made : Made w m next room left before after
+  pub made : LedByPicks w m next room left before after
   pub ends : ClosureEnds w left next ending
 
 -- What a look at an item answers: of one that isn't live nothing; else what a try of it does.
@@ -76,11 +76,11 @@ Counts false t left left' before after = (left' ≡ left) × (after ≡ before)
 
 -- One item was looked at: it was reduced, or nothing comes of it where it is live; or the closure
 -- ends with it.
-abbrev pub Looks : Setting → (item : ℕ) → (m next : Moment) → (left left' : ℕ)
+abbrev pub WasLookedAt : Setting → (item : ℕ) → (m next : Moment) → (left left' : ℕ)
     → (before after : List ℕ) → Option Ending → Type 0
-Looks w t m next left left' before after None =
+WasLookedAt w t m next left left' before after None =
     ((r : Reduction) × Reduces w m t r next × (left ≡ suc left') × (after ≡ before ++ t ∷ []))
     ⊎ ((has t m.scene.root.entries ≡ true → IsIdle (outcome_of w m.store m.scene t)) × (next ≡ m)
     × (left' ≡ left) × (after ≡ before))
-Looks w t m next left left' before after (Some ending) =
+WasLookedAt w t m next left left' before after (Some ending) =
     ClosureEnds w left m ending × (next ≡ m) × (left' ≡ left) × (after ≡ before)

@@ -4,7 +4,7 @@ use Rattle.tp_scene.specs.Scene as S
 use Rattle.tp_scene.specs.Scene.{Leaf, Holder, Entries, none, leaf, node, no_region}
 use Rattle.tp_scene.specs.Advance.{due, numbered}
 use Rattle.tp_decide.specs.Decided.{plain_leaf}
-use Rattle.tp_decide.specs.ReadPhrase.{formula_of, env_of}
+use Rattle.tp_decide.specs.ReadBound.{formula_of, env_of}
 use Rattle.tp_slots.specs.Plain.{What, bare, holds, gone, Slot, RegionSlot, Slots, slot_at, head_at, other_head, second_of, entries_at, has_second, IsInner}
 use Rattle.tp_slots.specs.Own.{own_ids}
 use Rattle.tp_slots.specs.Threads.{after_at}

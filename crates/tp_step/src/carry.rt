@@ -7,7 +7,7 @@ ghost use Rattle.tp_scene.specs.Pick.{Moment};
 ghost use Rattle.tp_scene.specs.Scene.{Entries};
 ghost use Rattle.tp_decide.specs.Decided.{adding_items, decided_outcome};
 ghost use Rattle.tp_decide.specs.Fits.{SetsVariables};
-ghost use Rattle.tp_decide.specs.ReadPhrase.{env_of};
+ghost use Rattle.tp_decide.specs.ReadBound.{env_of};
 ghost use Rattle.tp_slots.specs.Bound.{IsDueUnder};
 ghost use Rattle.tp_slots.specs.Edit.{stands_in};
 ghost use Rattle.tp_slots.specs.Reductions.{CanMove, IsBare, IsReduced};
@@ -19,7 +19,7 @@ ghost use Rattle.tp_step.specs.Chosen.{AllowsAddition, BindsThere, Carries, Carr
 use crate::answer::{NewIds, News, Tried};
 use smallvec::SmallVec;
 use std::alloc::Global;
-use tp_decide::{Decision, HolderDecision, Leaf, Leaves, Phrase, Side};
+use tp_decide::{BoundFormula, Decision, HolderDecision, Leaf, Leaves, Side};
 use tp_kernel::LimitKind;
 use tp_scene::Clash;
 use tp_slots::{
@@ -92,8 +92,8 @@ fn split(
     alloc: Global,
     scene: &mut Scene,
     item: u64,
-    first: Phrase,
-    after: Phrase,
+    first: BoundFormula,
+    after: BoundFormula,
     room: u64,
 ) -> Result<Tried, NoMemory>
     requires kept { IsWellKept scene.old }
@@ -116,8 +116,8 @@ fn open(
     alloc: Global,
     scene: &mut Scene,
     item: u64,
-    outer: Phrase,
-    piece: Phrase,
+    outer: BoundFormula,
+    piece: BoundFormula,
     room: u64,
 ) -> Result<Tried, NoMemory>
     requires kept { IsWellKept scene.old }
@@ -140,7 +140,7 @@ fn bind(
     alloc: Global,
     scene: &mut Scene,
     item: u64,
-    local: (Text, bool, Phrase),
+    local: (Text, bool, BoundFormula),
     store: &mut Store,
     room: u64,
 ) -> Result<Tried, NoMemory>

@@ -8,7 +8,7 @@ ghost use Rattle.tp_step.specs.Meaning.{StandsForAllOf, StartIsSound};
 
 use std::alloc::Global;
 use std::rc::Rc;
-use tp_decide::Phrase;
+use tp_decide::BoundFormula;
 use tp_kernel::{Env, Formula};
 use tp_slots::Scene;
 use tp_value::NoMemory;
@@ -25,5 +25,5 @@ pub fn start(alloc: Global, main: &Rc<Formula>) -> Result<Scene, NoMemory>
         items: Vec::new(alloc),
     };
     let env = Rc::new(alloc, env)?;
-    tp_slots::start(alloc, Phrase { what, env })
+    tp_slots::start(alloc, BoundFormula { what, env })
 }

@@ -28,6 +28,6 @@ pub use seed::choose_place;
 pub use step::try_item;
 pub use steps::Steps;
 pub use tally::{Tally, Wait, Waits};
-pub use tp_decide::{Phrase, Setting, Shows, Values};
+pub use tp_decide::{BoundFormula, Setting, Shows, Values};
 pub use tp_scene::{Cell, Clash};
 pub use tp_slots::{Mark, Scene, has_item, mark, shown};

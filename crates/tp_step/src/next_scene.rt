@@ -10,7 +10,7 @@ ghost use Rattle.tp_step.specs.Successors.{AreUnlinked, IsExtended, HasRegion, f
 
 use crate::own::own_items;
 use std::alloc::Global;
-use tp_decide::{Leaf, Phrase};
+use tp_decide::{BoundFormula, Leaf};
 use tp_slots::{Holder, Region, Scene, Slot, What, copy_values, no_looks, share};
 use tp_value::NoMemory;
 
@@ -24,16 +24,16 @@ enum Extent {
 /// What an item is that holds one region.
 #[derive(Drop)]
 enum OneHolder {
-    Split(Phrase),
+    Split(BoundFormula),
     Closed,
-    Opened(Phrase),
+    Opened(BoundFormula),
 }
 
 /// What an item is that holds two regions.
 #[derive(Drop)]
 enum TwoHolder {
-    SplitProject(Phrase),
-    Running(Phrase),
+    SplitProject(BoundFormula),
+    Running(BoundFormula),
 }
 
 /// What stands in the next state for an item: nothing, an item without a region, or one that holds what is left of a region, or of two.
@@ -78,8 +78,8 @@ fn copy_leaf(alloc: Global, leaf: &Leaf) -> Result<Leaf, NoMemory>
     ensures { IfOk result (λ l. plain_leaf l ≡ plain_leaf leaf.now) }
 {
     match leaf {
-        Leaf::Do(phrase) => Ok(Leaf::Do(share(phrase)?)),
-        Leaf::Later(phrase) => Ok(Leaf::Later(share(phrase)?)),
+        Leaf::Do(bound) => Ok(Leaf::Do(share(bound)?)),
+        Leaf::Later(bound) => Ok(Leaf::Later(share(bound)?)),
         Leaf::Shown(values) => Ok(Leaf::Shown(copy_values(alloc, values)?)),
     }
 }
@@ -133,9 +133,9 @@ fn due(what: &What) -> Result<Successor, NoMemory>
     ensures { IfOk result (λ x. successor_of x ≡ successor_in Extent.Due (what_of what.now)) }
 {
     match what {
-        What::Leaf(Leaf::Later(phrase)) => {
-            let phrase = share(phrase)?;
-            Ok(Successor::Bare(Leaf::Do(phrase)))
+        What::Leaf(Leaf::Later(bound)) => {
+            let bound = share(bound)?;
+            Ok(Successor::Bare(Leaf::Do(bound)))
         }
         What::Leaf(Leaf::Do(_) | Leaf::Shown(_)) => Ok(Successor::Nothing),
         What::Holder(Holder::Split { left, after }) => {

@@ -17,7 +17,7 @@ use crate::carry::{carry_decision, carry_holder};
 use crate::steps::Steps;
 use std::sync::ledger::Ledger;
 use tp_decide::{
-    Decision, HolderDecision, HolderKind, Leaf, Phrase, Setting, decide, decide_holder,
+    BoundFormula, Decision, HolderDecision, HolderKind, Leaf, Setting, decide, decide_holder,
 };
 use tp_slots::{Holder, Scene, What, place_inside, place_of_item, remember};
 use tp_store::Store;
@@ -46,12 +46,12 @@ fn holder_kind(what: &What) -> Option<HolderKind>
     }
 }
 
-// The phrase that is due, if any.
-fn due(what: &What) -> Option<&Phrase>
-    ensures { IsDueIn (what_of what.now) (option_map (λ phrase. phrase.now) result) }
+// The formula that is due, if any.
+fn due(what: &What) -> Option<&BoundFormula>
+    ensures { IsDueIn (what_of what.now) (option_map (λ bound. bound.now) result) }
 {
     match what {
-        What::Leaf(Leaf::Do(phrase)) => Some(phrase),
+        What::Leaf(Leaf::Do(bound)) => Some(bound),
         What::Leaf(Leaf::Later(_) | Leaf::Shown(_)) => None,
         What::Holder(_) | What::Gone { .. } => None,
     }
@@ -74,9 +74,9 @@ fn choose_for_leaf(
 {
     let slot = &scene.slots[item as usize];
     match due(&slot.what) {
-        Some(phrase) => {
+        Some(bound) => {
             let place = place_of_item(scene, item);
-            let decision = decide(setting.alloc, phrase, place, store, setting)?;
+            let decision = decide(setting.alloc, bound, place, store, setting)?;
             Ok(decision)
         }
         // An item without a region rests where nothing is due.

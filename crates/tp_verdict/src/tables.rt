@@ -157,7 +157,8 @@ fn looped_row(
     ensures width { IfOk result (λ row. width_of row ≡ words_for (length rows.now)) }
     ensures here { IfOk result (λ row. verdict_at row i
         ≡ one_of (verdict_of conditions.1) (both_of (verdict_of conditions.0)
-        (joined_from (length rows.now - suc i) (suc i) (stored body.now.rows.items i) rows.now i))) }
+        (joined_from (length rows.now - suc i) (suc i) (stored body.now.rows.items i)
+        rows.now i))) }
     ensures others { IfOk result (λ row. (j : ℕ) → (j ≡ i → ⊥) → verdict_at row j
         ≡ both_of (verdict_of conditions.0)
         (joined_from (length rows.now - suc i) (suc i) (stored body.now.rows.items i) rows.now j)) }

@@ -13,7 +13,8 @@ pub struct VerdictRow {
     sure: BitRow,
     may: BitRow,
     ghost same_width: { length may.words.items ≡ length sure.words.items },
-    ghost yes_may_be: { (j : ℕ) → has_bit sure.words.items j ≡ true → has_bit may.words.items j ≡ true },
+    ghost yes_may_be: { (j : ℕ) → has_bit sure.words.items j ≡ true
+        → has_bit may.words.items j ≡ true },
 }
 
 impl VerdictRow {
@@ -67,7 +68,8 @@ impl VerdictRow {
         requires { width_of other.now ≡ width_of self.old }
         ensures width { width_of self.new ≡ width_of self.old }
         ensures verdicts { (j : ℕ) → verdict_at self.new j
-            ≡ one_of (both_of (verdict_of verdict) (verdict_at other.now j)) (verdict_at self.old j) }
+            ≡ one_of (both_of (verdict_of verdict) (verdict_at other.now j))
+            (verdict_at self.old j) }
     {
         match verdict {
             Verdict::Yes => {

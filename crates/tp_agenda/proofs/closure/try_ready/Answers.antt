@@ -7,7 +7,7 @@ use Rattle.tp_step.specs.declared.tally.Tally.{Tally}
 use Rattle.tp_step.specs.declared.tally.Waits.{Waits}
 use Rattle.tp_step.specs.declared.tally.Wait.{Wait}
 use Rattle.tp_step.specs.Answers.{moment_of}
-use Rattle.tp_step.specs.Closes.{Made}
+use Rattle.tp_step.specs.Closes.{LedByPicks}
 use Rattle.tp_step.proofs.Picks.{on_refusal, made_none}
 use Rattle.tp_agenda.specs.declared.board.Board.{Board}
 use Rattle.tp_agenda.specs.Board.{FitsBoard, NewsAreNear}
@@ -93,13 +93,13 @@ take_in-requires-clause-near g c =
     tally.waits.items.items tally.rests board taken inv.held inv.taken (ap (λ (b : Board). b.over) without) (ap (λ (b : Board). b.taken) without) c.in-Ok.tried c.in-Ok.ensures.answer)
 
 -- the picks that were made, and what comes of the last try
-made : (g : Over) (c : After-take_in g) → Made (setting_of c.args.setting.now) (moment_of c.args.scene.now (contents_in c.args.store.now)) (moment_of c.try_item.new.scene (contents_in c.try_item.new.store))
+made : (g : Over) (c : After-take_in g) → LedByPicks (setting_of c.args.setting.now) (moment_of c.args.scene.now (contents_in c.args.store.now)) (moment_of c.try_item.new.scene (contents_in c.try_item.new.store))
     c.args.agenda.now.strategy.room c.count_pick.new.left c.args.tally.now.picks c.take_in.new.tally.picks
 made g c =
     let w = setting_of c.args.setting.now in
     let first = moment_of c.args.scene.now (contents_in c.args.store.now) in
     let next = moment_of c.try_item.new.scene (contents_in c.try_item.new.store) in
-    subst (λ xs. Made w first next c.args.agenda.now.strategy.room c.count_pick.new.left c.args.tally.now.picks xs) (sym c.take_in.ensures.picks)
+    subst (λ xs. LedByPicks w first next c.args.agenda.now.strategy.room c.count_pick.new.left c.args.tally.now.picks xs) (sym c.take_in.ensures.picks)
     (tried_made w first (moment_of c.tries.scene (contents_in c.tries.store)) next c.in-Some.item _ _ _ _ c.tries.tally.picks _ c.in-Ok.tried c.tries.invariant.made c.in-Ok.ensures.answer (c.count_pick.ensures.counts c.tries.tally.picks c.in-Some.item (c.in_ok-push.ensures.items ∙ ap (λ (y : Tally). y.picks ++ c.in-Some.item ∷ []) c.tally.view_is)))
 
 came : (g : Over) (c : In_ok-ending g) → ComesOf (setting_of c.args.setting.now) (moment_of c.args.scene.now (contents_in c.args.store.now)) (moment_of c.try_item.new.scene (contents_in c.try_item.new.store))

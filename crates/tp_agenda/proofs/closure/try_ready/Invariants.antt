@@ -3,7 +3,7 @@ use Rattle.tp_store.specs.Stock.{contents_in}
 use Rattle.tp_decide.specs.Decided.{setting_of}
 use Rattle.tp_slots.specs.Kept.{IsWellKept}
 use Rattle.tp_step.specs.Answers.{moment_of}
-use Rattle.tp_step.specs.Closes.{Made}
+use Rattle.tp_step.specs.Closes.{LedByPicks}
 use Rattle.tp_agenda.specs.Board.{FitsBoard, HasFlags, TakenAreKnown}
 use Rattle.tp_agenda.specs.Held.{IsHeld, nothing_due}
 use Rattle.tp_agenda.proofs.Trying.{AgendaSoFar}
@@ -17,7 +17,7 @@ invariant-tries g l =
     let recorded = l.tally.waits.items.items in
     record {
       so_far : AgendaSoFar w first here l.initial.agenda.strategy.order l.agenda.strategy.order l.initial.agenda.strategy.room l.agenda.strategy.room l.initial.tally.picks l.tally.picks recorded l.tally.rests l.initial.steps l.steps;
-      made : Made w first here l.initial.agenda.strategy.room l.agenda.strategy.room l.initial.tally.picks l.tally.picks;
+      made : LedByPicks w first here l.initial.agenda.strategy.room l.agenda.strategy.room l.initial.tally.picks l.tally.picks;
       held : IsHeld w here recorded l.tally.rests l.agenda.board.over.items l.agenda.board.ready nothing_due;
       fits : FitsBoard recorded l.agenda.board;
       flags : HasFlags here.scene l.agenda.board;

@@ -1,6 +1,6 @@
 use Rattle.tp_eval.specs.Answers.{outcome_tree}
 use Rattle.tp_scene.specs.Step.{instances}
-use Rattle.tp_decide.specs.ReadPhrase.{formula_of, env_of}
+use Rattle.tp_decide.specs.ReadBound.{formula_of, env_of}
 use Rattle.tp_decide.proofs.FoundLemmas.{number_without}
 use Rattle.tp_decide.proofs.counting.decide_instances.Goals as goal
 

@@ -1,7 +1,7 @@
 use Rattle.tp_eval.specs.Answers.{outcome_tree}
 use Rattle.tp_scene.specs.Step.{turns}
 use Rattle.tp_decide.specs.Decided.{plain_place}
-use Rattle.tp_decide.specs.ReadPhrase.{formula_of, env_of}
+use Rattle.tp_decide.specs.ReadBound.{formula_of, env_of}
 use Rattle.tp_decide.proofs.FoundLemmas.{number_without}
 use Rattle.tp_decide.proofs.counting.decide_turns.Goals as goal
 

@@ -1,7 +1,7 @@
 use Rattle.std.proofs.Common.{List, ℕ, ◌≡◌, ◌∙◌, ◌∷◌, ap, sym, subst, arith}
 use Rattle.std.proofs.lemmas.Grind.{common_steps}
 use Rattle.std.specs.Str.Lines.{lines}
-use Rattle.tp_inputs.specs.declared.span.Head.{Head}
+use Rattle.tp_inputs.specs.declared.span.LineHead.{LineHead}
 use Rattle.tp_inputs.specs.Spans.{has_ranges, head_of}
 use Rattle.tp_inputs.specs.Table.{IsLine}
 use Rattle.tp_inputs.specs.Model.{table_of}
@@ -22,7 +22,7 @@ loop-rest-preserved c =
     let new = table_of c.take_line.new.ports in
     let head : c.head_of.result ≡ head_of (has_ranges texts) number line = c.head_of.ensures.value ∙ ap (λ s. head_of s number line) c.has_ranges-second.ensures in
     let so_far : ReadsSoFar (has_ranges texts) texts number old (line ∷ lines c.first_line.result.1.now) = subst (ReadsSoFar (has_ranges texts) texts number old) c.first_line.ensures.lines c.loop-rest.invariant.so_far in
-    let is = subst (λ (h : Head). IsLine h line old new) head c.in_default.ensures.line in
+    let is = subst (λ (h : LineHead). IsLine h line old new) head c.in_default.ensures.line in
     record {
       so_far = line_more (has_ranges texts) texts number old new line (lines c.first_line.result.1.now) so_far is;
       apart = c.in_default.ensures.kept;
@@ -38,7 +38,7 @@ returns-in-Err-clause-refused c =
     let old = table_of c.loop-rest.ports in
     let head : c.head_of.result ≡ head_of (has_ranges texts) number line = c.head_of.ensures.value ∙ ap (λ s. head_of s number line) c.has_ranges-second.ensures in
     let so_far : ReadsSoFar (has_ranges texts) texts number old (line ∷ lines c.first_line.result.1.now) = subst (ReadsSoFar (has_ranges texts) texts number old) c.first_line.ensures.lines c.loop-rest.invariant.so_far in
-    subst (IsInputsRefusal bytes) (sym c.in_line.ensures) (refused_in bytes number old line (lines c.first_line.result.1.now) c.in-Err.refusal so_far (subst (λ (h : Head). IsLineRefusal h line old c.in-Err.refusal) head c.in-Err.ensures.refused))
+    subst (IsInputsRefusal bytes) (sym c.in_line.ensures) (refused_in bytes number old line (lines c.first_line.result.1.now) c.in-Err.refusal so_far (subst (λ (h : LineHead). IsLineRefusal h line old c.in-Err.refusal) head c.in-Err.ensures.refused))
 
 pub returns-clause-table : goal.returns-clause-table
 returns-clause-table c = table_whole c.args.bytes.now c.loop-rest.rest.now c.loop-rest.number (table_of c.loop-rest.ports) c.loop-rest.invariant.so_far (no_more c.loop-rest.rest.now (grind (arith, common_steps)))

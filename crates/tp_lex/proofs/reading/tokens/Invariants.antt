@@ -1,6 +1,6 @@
 use Rattle.std.proofs.Common.{◌≡◌, ◌+◌, ◌≤◌, ◌++◌, List, length, drop}
 use Rattle.tp_lex.specs.declared.token.Token.{Token}
-use Rattle.tp_lex.specs.Tokens.{ReadsTokens, Ending}
+use Rattle.tp_lex.specs.Tokens.{ReadsTokens, ReadingEnd}
 use Rattle.tp_lex.specs.Place.{place_of}
 use Rattle.tp_lex.proofs.reading.tokens.Given as goal
 
@@ -12,7 +12,7 @@ invariant-loop-rest l = record {
   place : l.place ≡ place_of l.bytes l.place.at;
   line : l.place.line ≤ l.place.at + 1;
   column : l.place.column ≤ l.place.at + 1;
-  reads : (ts : List Token) (end : Ending) → ReadsTokens l.bytes l.place.at ts end → ReadsTokens l.bytes 0 (l.found.items ++ ts) end;
+  reads : (ts : List Token) (end : ReadingEnd) → ReadsTokens l.bytes l.place.at ts end → ReadsTokens l.bytes 0 (l.found.items ++ ts) end;
 }
 
 abbrev pub decreases-loop-rest : goal.decreases-loop-rest

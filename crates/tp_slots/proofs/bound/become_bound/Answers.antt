@@ -1,12 +1,12 @@
--- The item becomes one with one binding more, or its phrase is put back.
+-- The item becomes one with one binding more, or its formula is put back.
 use Rattle.std.proofs.Common.{◌≡◌, [], ◌∷◌, length, None, ap, sym, ◌∙◌, subst, rules}
 use Rattle.std.specs.Prelude.{slice_set}
 use Rattle.std.proofs.lemmas.List.{length-map}
 use Rattle.tp_scene.specs.Scene as S
 use Rattle.tp_scene.specs.Pick.{scene_after}
 use Rattle.tp_decide.specs.declared.decision.Leaf.TheVariants.{Do}
-use Rattle.tp_decide.specs.declared.phrase.Phrase.{Phrase}
-use Rattle.tp_decide.specs.ReadPhrase.{env_of, formula_of}
+use Rattle.tp_decide.specs.declared.bound_formula.BoundFormula.{BoundFormula}
+use Rattle.tp_decide.specs.ReadBound.{env_of, formula_of}
 use Rattle.tp_slots.specs.Bound.{IsDueUnder, bound_last, slot_in, slot_with}
 use Rattle.tp_slots.specs.Plain.{bare}
 use Rattle.tp_slots.specs.Read.{item_what, scene_of, slot_of}
@@ -36,18 +36,18 @@ returns-in-Ok c =
     let next = c.push_due.new.scene in
     let out = out_before s c.make_room.new.scene t c.len-next.result taken mid c.make_room.ensures.same c.take_due-taken.ensures.taken in
     let free = due_is_bare (env_of body) (item_what s t) k.due in
-    let phrase : Phrase = record { what = body.what; env = c.bind_local.new.env } in
+    let bound : BoundFormula = record { what = body.what; env = c.bind_local.new.env } in
     let number : c.len-next.result ≡ length s.slots.items = search rules in
     let regions : next.regions.items ≡ s.regions.items = ap (λ v. v.items) (c.push_due.ensures.regions ∙ c.take_due-taken.ensures.regions) ∙ c.make_room.ensures.same.regions in
     let there : env_of body ≡ env_of taken = env_there s t c.len-next.result taken mid k.kept k.lives out (env_of body) k.due in
     let last : S.Bindings → S.Bindings = λ e. bound_last e (length c.args.store.now.variables) c.args.local.1 in
-    let env : env_of phrase ≡ last (env_of body) = c.in-Ok.ensures.env ∙ ap last (sym there) in
+    let env : env_of bound ≡ last (env_of body) = c.in-Ok.ensures.env ∙ ap last (sym there) in
     record {
-      kept = more_kept s t c.len-next.result taken mid k.kept k.lives out free number phrase next c.push_due.ensures.slots regions (c.push_due.ensures.looks ∙ c.take_due-taken.ensures.looks ∙ c.make_room.ensures.looks);
-      scene = more_scene s t c.len-next.result taken mid k.kept k.lives out free number phrase next c.push_due.ensures.slots regions
+      kept = more_kept s t c.len-next.result taken mid k.kept k.lives out free number bound next c.push_due.ensures.slots regions (c.push_due.ensures.looks ∙ c.take_due-taken.ensures.looks ∙ c.make_room.ensures.looks);
+      scene = more_scene s t c.len-next.result taken mid k.kept k.lives out free number bound next c.push_due.ensures.slots regions
           ∙ ap (λ (e : S.Bindings). scene_after t (becomes_leaves (scene_of s) (bare (S.Do (formula_of body) e) ∷ []) None) (scene_of s)) env;
       news = c.in_ok-fresh.ensures ∙ ap (λ n. n ∷ []) (number ∙ sym (length-map s.slots.items slot_of))
-          ∙ sym (more_news s t c.len-next.result taken mid k.kept k.lives out free number phrase next c.push_due.ensures.slots regions);
+          ∙ sym (more_news s t c.len-next.result taken mid k.kept k.lives out free number bound next c.push_due.ensures.slots regions);
       local = c.in-Ok.ensures.local;
       scene_err = tt;
       store_err = tt;

@@ -7,7 +7,7 @@ use Rattle.tp_scene.specs.Step.{region_of}
 use Rattle.tp_slots.specs.News.{new_items}
 use Rattle.tp_slots.proofs.Newly.{holder_news}
 use Rattle.tp_scene.specs.Scene as S
-use Rattle.tp_decide.specs.ReadPhrase.{env_of, formula_of}
+use Rattle.tp_decide.specs.ReadBound.{env_of, formula_of}
 use Rattle.tp_slots.specs.Plain as plain
 use Rattle.tp_slots.specs.Plain.{RegionSlot}
 use Rattle.tp_slots.specs.Row.{AllBelow, begun, stepped, held_after}

@@ -1,6 +1,6 @@
 -- What holds the new region is a split.
 use Rattle.std.proofs.Common.{◌≡◌, length, None, refl, rules}
-use Rattle.tp_decide.specs.ReadPhrase.{env_of, formula_of}
+use Rattle.tp_decide.specs.ReadBound.{env_of, formula_of}
 use Rattle.tp_scene.specs.Scene as S
 use Rattle.tp_slots.specs.Plain as plain
 use Rattle.tp_slots.proofs.change.become_split.Goals as goal

@@ -1,7 +1,7 @@
 -- One more item, before those that were to be visited.
 use Rattle.std.proofs.Common.{◌-◌, ◌+◌, ◌++◌, ◌∷◌, [], refl, ap, ◌∙◌, arith}
 use Rattle.tp_slots.specs.Walk.{visits}
-use Rattle.tp_slots.specs.declared.walk.Task.TheVariants.{Visit}
+use Rattle.tp_slots.specs.declared.walk.WalkTask.TheVariants.{Visit}
 use Rattle.tp_slots.proofs.Lists.{range_before}
 use Rattle.tp_slots.proofs.walk.push_range.Goals as goal
 

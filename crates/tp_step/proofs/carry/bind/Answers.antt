@@ -6,7 +6,7 @@ use Rattle.tp_scene.specs.Pick.{scene_after}
 use Rattle.tp_scene.specs.Step.{Reduction}
 use Rattle.tp_decide.specs.declared.decision.Decision.TheVariants as decision
 use Rattle.tp_decide.specs.Decided.{decided_outcome}
-use Rattle.tp_decide.specs.ReadPhrase.{formula_of, env_of}
+use Rattle.tp_decide.specs.ReadBound.{formula_of, env_of}
 use Rattle.tp_slots.specs.Bound.{bound_last}
 use Rattle.tp_slots.specs.Kept.{numbers_in}
 use Rattle.tp_slots.specs.Read.{scene_of}

@@ -1,7 +1,7 @@
 -- An outer region is begun, or no reduction is left.
 use Rattle.std.proofs.Common.{refl, arith}
 use Rattle.tp_decide.specs.declared.decision.Decision.TheVariants as decision
-use Rattle.tp_decide.specs.ReadPhrase.{formula_of, env_of}
+use Rattle.tp_decide.specs.ReadBound.{formula_of, env_of}
 use Rattle.tp_slots.specs.Read.{scene_of}
 use Rattle.tp_slots.specs.Reductions.{becomes_opened}
 use Rattle.tp_step.proofs.CarryLemmas.{carried_decision, full_decision, nothing_added}

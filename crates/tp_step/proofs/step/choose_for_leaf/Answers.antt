@@ -3,7 +3,7 @@ use Rattle.std.proofs.Common.{◌<◌, length, ap, sym, ◌∙◌, subst, rules}
 use Rattle.tp_store.specs.Stock.{contents_in}
 use Rattle.tp_scene.specs.Pick.{numbers_of}
 use Rattle.tp_decide.specs.Decided.{setting_of, plain_place}
-use Rattle.tp_decide.specs.ReadPhrase.{formula_of, env_of}
+use Rattle.tp_decide.specs.ReadBound.{formula_of, env_of}
 use Rattle.tp_slots.specs.Picked.{what_step}
 use Rattle.tp_slots.specs.Plain.{What}
 use Rattle.tp_slots.specs.Read.{scene_of, slots_of, what_of}
@@ -24,7 +24,7 @@ place_of_item-place-requires-clause-shallow c =
 pub decide-requires : goal.decide-requires
 decide-requires c =
     let is = what_read c.args.scene.now c.args.item c.index-slot.result.now c.requires.kept c.requires.lives c.index-slot.ensures ∙ (rw c.in-Some.is at c.due.ensures) in
-    record { fits = phrase_fits (setting_of c.args.setting.now) c.requires.sound.0 (contents_in c.args.store.now) c.args.scene.now c.args.item c.requires.sound.1 c.requires.kept c.requires.lives (formula_of c.in-Some.phrase.now) (env_of c.in-Some.phrase.now) is }
+    record { fits = phrase_fits (setting_of c.args.setting.now) c.requires.sound.0 (contents_in c.args.store.now) c.args.scene.now c.args.item c.requires.sound.1 c.requires.kept c.requires.lives (formula_of c.in-Some.bound.now) (env_of c.in-Some.bound.now) is }
 
 pub returns-in_ok-decision-in-Some : goal.returns-in_ok-decision-in-Some
 returns-in_ok-decision-in-Some c =
@@ -32,8 +32,8 @@ returns-in_ok-decision-in-Some c =
     let k = contents_in c.args.store.now in
     let w = setting_of c.args.setting.now in
     let n = numbers_of (scene_of s) k.variables in
-    let f = formula_of c.in-Some.phrase.now in
-    let env = env_of c.in-Some.phrase.now in
+    let f = formula_of c.in-Some.bound.now in
+    let env = env_of c.in-Some.bound.now in
     let d = c.in_ok-decision-in-Some.decision in
     let is = what_read s c.args.item c.index-slot.result.now c.requires.kept c.requires.lives c.index-slot.ensures ∙ (rw c.in-Some.is at c.due.ensures) in (
       subst IsBare (sym is) tt,

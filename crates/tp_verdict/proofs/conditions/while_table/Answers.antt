@@ -17,9 +17,9 @@ returns-clause-verdicts c =
     let e = expr_tree c.args.condition.now in
     let n = c.requires in
     let when = listed_is e (truth true) states c.in_ok-found.found.items c.as_slice-3.result.now c.in_ok-found.ensures
-      (ap (map verdict_of) c.as_slice-3.ensures.value ∙ c.in_ok-is_true.ensures ∙ ap (map (λ (o : Outcome). value_verdict (outcome_tree o) (truth true))) c.as_slice.ensures.value) in
+    (ap (map verdict_of) c.as_slice-3.ensures.value ∙ c.in_ok-is_true.ensures ∙ ap (map (λ (o : Outcome). value_verdict (outcome_tree o) (truth true))) c.as_slice.ensures.value) in
     let unless = listed_is e (truth false) states c.in_ok-found.found.items c.as_slice-4.result.now c.in_ok-found.ensures
-      (ap (map verdict_of) c.as_slice-4.ensures.value ∙ c.in_ok-is_false.ensures ∙ ap (map (λ (o : Outcome). value_verdict (outcome_tree o) (truth false))) c.as_slice-2.ensures.value) in
+    (ap (map verdict_of) c.as_slice-4.ensures.value ∙ c.in_ok-is_false.ensures ∙ ap (map (λ (o : Outcome). value_verdict (outcome_tree o) (truth false))) c.as_slice-2.ensures.value) in
     from_both c.looped_table.result _ _ _
     (λ table many all. λ w b. while_kind states table.rows.items (omega (arith, many, n)) e w c.as_slice-3.result.now c.as_slice-4.result.now when unless (all (verdict (found_in states) w) b))
     c.looped_table.ensures.many c.looped_table.ensures.verdicts

@@ -8,5 +8,5 @@ pub returns-clause-verdicts : goal.returns-clause-verdicts
 returns-clause-verdicts c =
     IfOk-weaker c.not_table-2.result _ _
     (λ table all. λ found w b. always_kind (verdict found w) table.rows.items (all found (sometimes (negation w))
-      (c.in_ok-somewhere.ensures.verdicts (verdict found (negation w)) (c.in_ok-without.ensures.verdicts found w b))))
+    (c.in_ok-somewhere.ensures.verdicts (verdict found (negation w)) (c.in_ok-without.ensures.verdicts found w b))))
     c.not_table-2.ensures.verdicts

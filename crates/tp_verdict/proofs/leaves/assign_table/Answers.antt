@@ -9,6 +9,6 @@ pub returns-clause-verdicts : goal.returns-clause-verdicts
 returns-clause-verdicts c =
     from_both c.ruled_table.result _ _ _
     (λ table many all. assign_kind c.args.states.now table.rows.items (omega (arith, many)) (expr_tree c.args.target.now) (expr_tree c.args.source.now) c.as_slice.result.now c.as_slice-2.result.now
-      (ap (map outcome_tree) c.as_slice.ensures.value ∙ c.in_ok-ends.ensures)
-      (ap (map outcome_tree) c.as_slice-2.ensures.value ∙ c.in_ok-starts.ensures) all)
+    (ap (map outcome_tree) c.as_slice.ensures.value ∙ c.in_ok-ends.ensures)
+    (ap (map outcome_tree) c.as_slice-2.ensures.value ∙ c.in_ok-starts.ensures) all)
     c.ruled_table.ensures.many c.ruled_table.ensures.verdicts

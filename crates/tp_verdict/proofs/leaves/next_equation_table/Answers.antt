@@ -21,9 +21,9 @@ returns-clause-verdicts c =
     let same = outcomes_length e states es k in
     from_both c.ruled_table.result _ _ _
     (λ table many all. next_equation_kind states table.rows.items (omega (arith, many)) c.args.ahead t e vs
-      (λ i l. ap (λ (xs : List Verdict). verdict_listed xs i) c.as_slice-3.ensures.value
-      ∙ c.in_ok-verdicts.ensures i (omega (arith, l, same))
-      ∙ ap (paired ts es i) (let z : i + c.args.ahead ≡ c.args.ahead + i = omega arith in z)
-      ∙ paired_is t e states ts es h k i (c.args.ahead + i) (omega (arith, l)) l)
-      all)
+    (λ i l. ap (λ (xs : List Verdict). verdict_listed xs i) c.as_slice-3.ensures.value
+    ∙ c.in_ok-verdicts.ensures i (omega (arith, l, same))
+    ∙ ap (paired ts es i) (let z : i + c.args.ahead ≡ c.args.ahead + i = omega arith in z)
+    ∙ paired_is t e states ts es h k i (c.args.ahead + i) (omega (arith, l)) l)
+    all)
     c.ruled_table.ensures.many c.ruled_table.ensures.verdicts

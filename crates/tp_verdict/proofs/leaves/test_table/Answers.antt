@@ -15,8 +15,8 @@ returns-clause-verdicts c =
     let e = expr_tree c.args.expr.now in
     let vs = c.as_slice-2.result.now in
     let told = listed_is e (truth true) states c.in_ok-found.found.items vs c.in_ok-found.ensures
-      (ap (map verdict_of) c.as_slice-2.ensures.value ∙ c.in_ok-verdicts.ensures
-      ∙ ap (map (λ (o : Outcome). value_verdict (outcome_tree o) (truth true))) c.as_slice.ensures.value) in
+    (ap (map verdict_of) c.as_slice-2.ensures.value ∙ c.in_ok-verdicts.ensures
+    ∙ ap (map (λ (o : Outcome). value_verdict (outcome_tree o) (truth true))) c.as_slice.ensures.value) in
     from_both c.ruled_table.result _ _ _
     (λ table many all. test_kind states table.rows.items (omega (arith, many)) e vs told all)
     c.ruled_table.ensures.many c.ruled_table.ensures.verdicts

@@ -4,7 +4,7 @@ use Rattle.std.proofs.lemmas.List.{map_push}
 use Rattle.std.proofs.lemmas.Result.{err_from_is_err_and}
 use Rattle.tp_tree.specs.Read.{phrase_tree}
 use Rattle.tp_parse.specs.Marks.{before, role_at, Tokens, mark}
-use Rattle.tp_parse.specs.declared.mark.Role.TheVariants.{Ends}
+use Rattle.tp_parse.specs.declared.mark.TokenRole.TheVariants.{Ends}
 use Rattle.tp_parse.specs.Grammar.{operands_of}
 use Rattle.tp_parse.specs.Seen.{seen}
 use Rattle.tp_parse.specs.Reading.{read, operations, go, others, others_from, levels}

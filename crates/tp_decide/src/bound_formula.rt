@@ -5,7 +5,7 @@ use tp_value::Value;
 
 /// A formula, and what its bound names stand for. Items that come of one formula share its environment.
 #[derive(Drop)]
-pub struct Phrase {
+pub struct BoundFormula {
     pub what: Rc<Formula>,
     pub env: Rc<Env>,
 }
