@@ -17,7 +17,7 @@ use Rattle.tp_words.specs.declared.mode.Mode.TheVariants.{Run, Print, Convert, C
 use Rattle.tp_words.specs.Words.{Wanted, wanted_of}
 use Rattle.std.specs.Str.Lines.{lines}
 use Rattle.tp_meaning.specs.Inputs.{InputTable}
-use Rattle.tp_inputs.specs.declared.fault.Fault.{Fault}
+use Rattle.tp_inputs.specs.declared.fault.LineFault.{LineFault}
 use Rattle.tp_inputs.specs.Table.{IsInputsText, IsFirstFault}
 use Rattle.tp_inputs.specs.Converted.{converted}
 use Rattle.tp_show.specs.Texts.{end_line}
@@ -158,7 +158,7 @@ IsPastLimit which bytes = byte_limit which < length bytes
 -- the file of inputs is refused at this line
 abbrev pub HasBadLine : ℕ → List ℕ → Type 0
 HasBadLine line bytes =
-    (length bytes ≤ inputs_limit) × ((fault : Fault) × IsFirstFault (lines bytes) line fault)
+    (length bytes ≤ inputs_limit) × ((fault : LineFault) × IsFirstFault (lines bytes) line fault)
 
 -- the other file is refused at this line
 abbrev pub HasBadTraceLine : ℕ → List ℕ → Type 0

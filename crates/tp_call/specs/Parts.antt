@@ -4,7 +4,7 @@ use Rattle.std.specs.Str.Lines.{lines}
 use Rattle.tp_io.specs.Held.{Held, bytes_of}
 use Rattle.tp_words.specs.declared.mode.Mode.{Mode}
 use Rattle.tp_words.specs.Words.{wanted_of}
-use Rattle.tp_inputs.specs.declared.fault.Fault.{Fault}
+use Rattle.tp_inputs.specs.declared.fault.LineFault.{LineFault}
 use Rattle.tp_inputs.specs.Table.{IsFirstFault}
 use Rattle.tp_show.specs.declared.named_fact.NamedFact.{NamedFact}
 use Rattle.tp_show.specs.Trace.{IsFirstBadLine}
@@ -43,7 +43,7 @@ IsSourceRefusal mode held name status = (status ≡ NoMemory) ⊎ (status ≡ Re
 abbrev pub IsTableRefusal : List ℕ → Status → Type 0
 IsTableRefusal text status =
     (status ≡ NoMemory) ⊎ ((line : ℕ) × (status ≡ InputsRefused line)
-    × ((fault : Fault) × IsFirstFault (lines text) line fault))
+    × ((fault : LineFault) × IsFirstFault (lines text) line fault))
 
 -- there is no table for this cause: the read failed, or the file is too long, or is refused there;
 -- or memory was wanted, which alone is a cause where no file is named

@@ -10,21 +10,21 @@ use Rattle.tp_eval.specs.Reached.{Reached, reaches}
 use Rattle.tp_eval.specs.Evaluate.{PlaceFound, at_path, inside, element_in, evaluate, find_place, depth_limit}
 use Rattle.tp_eval.specs.Outcome as found
 use Rattle.tp_eval.specs.Outcome.{outcome, place_outcome, outcome_reached, place_reached}
-use Rattle.tp_eval.specs.declared.halt.Halt.{Halt}
-use Rattle.tp_eval.specs.declared.halt.Halt.TheVariants.{Waits, Faults, Passes, NoMemory}
+use Rattle.tp_eval.specs.declared.halt.EvalHalt.{EvalHalt}
+use Rattle.tp_eval.specs.declared.halt.EvalHalt.TheVariants.{Waits, Faults, Passes, NoMemory}
 use Rattle.tp_eval.specs.Answers.{Stops, AnswersReached, IsHalt, IsAnswer}
 
-halt_is : (r : Reached Tree) (h : Halt) (x : found.Outcome) → Stops r h → IsHalt h x → x ≡ outcome_reached r
+halt_is : (r : Reached Tree) (h : EvalHalt) (x : found.Outcome) → Stops r h → IsHalt h x → x ≡ outcome_reached r
 halt_is r (Waits p) x k i = i ∙ ap outcome_reached (sym k)
 halt_is r (Faults p) x k i = i ∙ ap outcome_reached (sym k)
 halt_is r (Passes p) x k i = i ∙ ap outcome_reached (sym k)
 halt_is r NoMemory x k i = absurd i
 
-pub answer_is : (r : Reached Tree) (answer : Result Value Halt) (calls : ℕ) (x : found.Outcome) → AnswersReached tree answer calls r → IsAnswer answer x → x ≡ outcome_reached r
+pub answer_is : (r : Reached Tree) (answer : Result Value EvalHalt) (calls : ℕ) (x : found.Outcome) → AnswersReached tree answer calls r → IsAnswer answer x → x ≡ outcome_reached r
 answer_is r (Ok v) calls x k i = i ∙ ap outcome_reached (sym k)
 answer_is r (Err h) calls x k i = halt_is r h x k i
 
-pub place_halt_is : (facts : List Fact) (r : Reached PlaceFound) (h : Halt) (x : found.Outcome) → Stops r h → IsHalt h x → found.other x ≡ place_reached facts r
+pub place_halt_is : (facts : List Fact) (r : Reached PlaceFound) (h : EvalHalt) (x : found.Outcome) → Stops r h → IsHalt h x → found.other x ≡ place_reached facts r
 place_halt_is facts r (Waits p) x k i = ap found.other i ∙ ap (place_reached facts) (sym k)
 place_halt_is facts r (Faults p) x k i = ap found.other i ∙ ap (place_reached facts) (sym k)
 place_halt_is facts r (Passes p) x k i = ap found.other i ∙ ap (place_reached facts) (sym k)

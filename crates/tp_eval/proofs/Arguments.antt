@@ -7,7 +7,7 @@ use Rattle.tp_kernel.specs.declared.fault.FaultKind.TheVariants.{NoElement}
 use Rattle.tp_meaning.specs.Syntax.{ExprTree, ExprTrees, expr_then, BindingTree}
 use Rattle.tp_meaning.specs.Value.{is_upper}
 use Rattle.tp_eval.specs.Reached.{reaches, stops, faults, Evaluation, with_reached, ◌>>=◌, gives}
-use Rattle.tp_eval.specs.declared.halt.Halt.{Halt}
+use Rattle.tp_eval.specs.declared.halt.EvalHalt.{EvalHalt}
 use Rattle.tp_eval.specs.Evaluate.{PlaceFound, argument, arguments}
 use Rattle.tp_eval.specs.Answers.{Stops}
 use Rattle.tp_eval.proofs.Steps.{reaches_then, stops_then}
@@ -28,7 +28,7 @@ module _ (operand : ExprTree → Evaluation Tree) (place : ExprTree → Evaluati
       ∙ then_all (arguments operand place es xs c') (λ bs. gives (b ∷ bs)) (λ us. gives (done ++ us))
       ∙ ap (λ (f : List BindingTree → List BindingTree). with_reached (arguments operand place es xs c') (λ bs. gives (f bs))) (λ i bs. sym (append_assoc done (b ∷ []) bs) i)
 
-  pub argument_halts : (done : List BindingTree) (e : ExprTree) (es : ExprTrees) (x : List ℕ) (xs : List (List ℕ)) (c : ℕ) (h : Halt) → Stops (argument operand place (is_upper x) e c) h
+  pub argument_halts : (done : List BindingTree) (e : ExprTree) (es : ExprTrees) (x : List ℕ) (xs : List (List ℕ)) (c : ℕ) (h : EvalHalt) → Stops (argument operand place (is_upper x) e c) h
       → Stops (bindings_with done (expr_then e es) (x ∷ xs) c) h
   argument_halts done e es x xs c h k = stops_then _ h _ (stops_then (argument operand place (is_upper x) e c) h _ k)
 

@@ -9,7 +9,7 @@ use Rattle.tp_kernel.specs.Read.{expr_tree, bindings_of, definitions_of}
 use Rattle.tp_meaning.specs.Syntax.{ExprTree, ExprTrees, bound, global, index, no_expr, expr_then, exprs_of}
 use Rattle.tp_eval.specs.Reached.{Reached, reaches, stops, Evaluation, with_reached, ◌>>=◌, gives}
 use Rattle.tp_eval.specs.declared.lookup.Lookup.{Lookup}
-use Rattle.tp_eval.specs.declared.halt.Halt.{Halt}
+use Rattle.tp_eval.specs.declared.halt.EvalHalt.{EvalHalt}
 use Rattle.tp_eval.specs.Evaluate.{PlaceFound, is_place, each, all_true, truth_in, evaluate, evaluated_place, part_value, indexed_value, index_in, farther, read_at}
 use Rattle.tp_eval.specs.Answers.{Halts, Stops, operand_in, place_at}
 use Rattle.tp_eval.proofs.Steps.{reaches_then, stops_then, stops_same, halts_at}
@@ -88,7 +88,7 @@ each_next operand done e t es c c' h =
     ∙ then_all (each operand es c') (λ ts. gives (t ∷ ts)) (λ us. gives (done ++ us))
     ∙ ap (λ (f : List Tree → List Tree). with_reached (each operand es c') (λ ts. gives (f ts))) (λ i ts. sym (append_assoc done (t ∷ []) ts) i)
 
-pub each_halts : (operand : ExprTree → Evaluation Tree) (done : List Tree) (e : ExprTree) (es : ExprTrees) (c : ℕ) (h : Halt) → Stops (operand e c) h → Stops (values_with operand done (expr_then e es) c) h
+pub each_halts : (operand : ExprTree → Evaluation Tree) (done : List Tree) (e : ExprTree) (es : ExprTrees) (c : ℕ) (h : EvalHalt) → Stops (operand e c) h → Stops (values_with operand done (expr_then e es) c) h
 each_halts operand done e es c h k = stops_then _ h _ (stops_then (operand e c) h _ k)
 
 pub each_ends : (operand : ExprTree → Evaluation Tree) (done : List Tree) (c : ℕ) → values_with operand done no_expr c ≡ reaches done c
@@ -100,8 +100,8 @@ all_next operand e t b es c c' h k q = reaches_then (operand e c) t c' _ h ∙ a
 pub all_false : (operand : ExprTree → Evaluation Tree) (e : ExprTree) (t : Tree) (b : Bool) (es : ExprTrees) (c c' : ℕ) → operand e c ≡ reaches t c' → truth_in t ≡ gives b → b ≡ false → all_true operand (expr_then e es) c ≡ reaches (truth false) c'
 all_false operand e t b es c c' h k q = reaches_then (operand e c) t c' _ h ∙ ap (λ (o : Evaluation Bool). (o >>= λ x. if x then all_true operand es else gives (truth false)) c') k ∙ ap (λ (x : Bool). (if x then all_true operand es else gives (truth false)) c') q
 
-pub all_halts : (operand : ExprTree → Evaluation Tree) (e : ExprTree) (es : ExprTrees) (c : ℕ) (h : Halt) → Stops (operand e c) h → Stops (all_true operand (expr_then e es) c) h
+pub all_halts : (operand : ExprTree → Evaluation Tree) (e : ExprTree) (es : ExprTrees) (c : ℕ) (h : EvalHalt) → Stops (operand e c) h → Stops (all_true operand (expr_then e es) c) h
 all_halts operand e es c h k = stops_then (operand e c) h _ k
 
-pub all_halts_truth : (operand : ExprTree → Evaluation Tree) (e : ExprTree) (t : Tree) (es : ExprTrees) (c c' : ℕ) (h : Halt) → operand e c ≡ reaches t c' → Halts (truth_in t) h → Stops (all_true operand (expr_then e es) c) h
+pub all_halts_truth : (operand : ExprTree → Evaluation Tree) (e : ExprTree) (t : Tree) (es : ExprTrees) (c c' : ℕ) (h : EvalHalt) → operand e c ≡ reaches t c' → Halts (truth_in t) h → Stops (all_true operand (expr_then e es) c) h
 all_halts_truth operand e t es c c' h q k = stops_same _ _ h (reaches_then (operand e c) t c' _ q) (stops_then (truth_in t c') h _ (halts_at (truth_in t) h c' k))

@@ -9,8 +9,8 @@ use Rattle.tp_meaning.specs.Syntax.{ExprTree, ExprTrees, Definition}
 use Rattle.tp_eval.specs.Evaluate.{PlaceFound, evaluate, find_place, call}
 use Rattle.tp_eval.specs.Reached.{Reached, reaches, stops, Evaluation, gives, stop, waits, faults, passes}
 use Rattle.tp_eval.specs.declared.lookup.Lookup.{Lookup}
-use Rattle.tp_eval.specs.declared.halt.Halt.{Halt}
-use Rattle.tp_eval.specs.declared.halt.Halt.TheVariants.{Waits, Faults, Passes, NoMemory}
+use Rattle.tp_eval.specs.declared.halt.EvalHalt.{EvalHalt}
+use Rattle.tp_eval.specs.declared.halt.EvalHalt.TheVariants.{Waits, Faults, Passes, NoMemory}
 use Rattle.tp_eval.specs.declared.outcome.Outcome.{Outcome}
 use Rattle.tp_eval.specs.declared.outcome.Outcome.TheVariants as outcome
 use Rattle.tp_eval.specs.declared.outcome.PlaceOutcome.{PlaceOutcome}
@@ -18,7 +18,7 @@ use Rattle.tp_eval.specs.declared.outcome.PlaceOutcome.TheVariants as place
 use Rattle.tp_eval.specs.Outcome as found
 
 -- The evaluation stops as this says; nothing is said for want of memory.
-abbrev pub Halts : {A : Type 0} → Evaluation A → Halt → Type 0
+abbrev pub Halts : {A : Type 0} → Evaluation A → EvalHalt → Type 0
 Halts o (Waits p) = o ≡ stop (waits p)
 Halts o (Faults k) = o ≡ stop (faults k)
 Halts o (Passes k) = o ≡ stop (passes k)
@@ -26,12 +26,12 @@ Halts o NoMemory = Unit {0}
 
 -- The evaluation gives what `read` makes of the answer, or stops as the answer says. It makes no
 -- call.
-abbrev pub AnswersEvaluation : {A B : Type 0} → (read : A → B) → Result A Halt → Evaluation B
+abbrev pub AnswersEvaluation : {A B : Type 0} → (read : A → B) → Result A EvalHalt → Evaluation B
     → Type 0
 AnswersEvaluation read answer o = MatchResult answer (λ x. o ≡ gives (read x)) (Halts o)
 
 -- What was reached is a stop as this says; nothing is said for want of memory.
-abbrev pub Stops : {A : Type 0} → Reached A → Halt → Type 0
+abbrev pub Stops : {A : Type 0} → Reached A → EvalHalt → Type 0
 Stops r (Waits p) = r ≡ stops (waits p)
 Stops r (Faults k) = r ≡ stops (faults k)
 Stops r (Passes k) = r ≡ stops (passes k)
@@ -39,7 +39,7 @@ Stops r NoMemory = Unit {0}
 
 -- What was reached is what `read` makes of the answer, after so many calls, or a stop as the answer
 -- says.
-abbrev pub AnswersReached : {A B : Type 0} → (read : A → B) → Result A Halt → (calls : ℕ)
+abbrev pub AnswersReached : {A B : Type 0} → (read : A → B) → Result A EvalHalt → (calls : ℕ)
     → Reached B → Type 0
 AnswersReached read answer calls r = MatchResult answer (λ x. r ≡ reaches (read x) calls) (Stops r)
 
@@ -79,12 +79,12 @@ call_in l levels =
     (λ e args. evaluate l.store.now.facts (definitions_of l.defs.now) levels e args)
 
 -- The outcome is that of an evaluation which stops as this says; want of memory has none.
-abbrev pub IsHalt : Halt → found.Outcome → Type 0
+abbrev pub IsHalt : EvalHalt → found.Outcome → Type 0
 IsHalt (Waits p) o = o ≡ found.wait p
 IsHalt (Faults k) o = o ≡ found.fault k
 IsHalt (Passes k) o = o ≡ found.over k
 IsHalt NoMemory o = ⊥
 
 -- the outcome is that of an evaluation with this answer
-abbrev pub IsAnswer : Result Value Halt → found.Outcome → Type 0
+abbrev pub IsAnswer : Result Value EvalHalt → found.Outcome → Type 0
 IsAnswer answer o = MatchResult answer (λ v. o ≡ found.value (tree v)) (λ h. IsHalt h o)

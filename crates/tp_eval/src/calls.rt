@@ -9,7 +9,7 @@ ghost use Rattle.tp_eval.specs.Answers.{outcome_tree, place_outcome_of, IsHalt, 
 ghost use Rattle.tp_eval.specs.Places.{place_in};
 
 use crate::evaluate::{evaluate, find_place};
-use crate::halt::Halt;
+use crate::halt::EvalHalt;
 use crate::lookup::Lookup;
 use crate::outcome::{Outcome, PlaceOutcome};
 use crate::places::{PlaceFound, copy_element};
@@ -22,18 +22,18 @@ use tp_value::{NoMemory, Value};
 // How deep an evaluation goes: the whole expression is at depth 1, an operand one deeper than what holds it.
 const LEVELS: u32 = 2000;
 
-fn halted(halt: Halt) -> Result<Outcome, NoMemory>
+fn halted(halt: EvalHalt) -> Result<Outcome, NoMemory>
     ensures { IfOk result (λ o. IsHalt halt (outcome_tree o)) }
 {
     match halt {
-        Halt::Waits(path) => Ok(Outcome::Wait(path)),
-        Halt::Faults(kind) => Ok(Outcome::Fault(kind)),
-        Halt::Passes(kind) => Ok(Outcome::Over(kind)),
-        Halt::NoMemory => Err(NoMemory),
+        EvalHalt::Waits(path) => Ok(Outcome::Wait(path)),
+        EvalHalt::Faults(kind) => Ok(Outcome::Fault(kind)),
+        EvalHalt::Passes(kind) => Ok(Outcome::Over(kind)),
+        EvalHalt::NoMemory => Err(NoMemory),
     }
 }
 
-fn settled(answer: Result<Value, Halt>) -> Result<Outcome, NoMemory>
+fn settled(answer: Result<Value, EvalHalt>) -> Result<Outcome, NoMemory>
     ensures { IfOk result (λ o. IsAnswer answer (outcome_tree o)) }
 {
     match answer {

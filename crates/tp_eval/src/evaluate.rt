@@ -10,7 +10,7 @@ ghost use Rattle.tp_eval.specs.Places.{place_in};
 ghost use Rattle.tp_store.specs.Operand.{operand_tree};
 
 use crate::count::count_call;
-use crate::halt::Halt;
+use crate::halt::EvalHalt;
 use crate::kinds::{limited, number_of, truth_of, within};
 use crate::lookup::Lookup;
 use crate::operand::{bind_value, bound_value, kept_value};
@@ -48,18 +48,18 @@ pub fn is_place(expr: &Expr) -> bool
 }
 
 // A number, where it is within the limit.
-fn constant(n: Number) -> Result<Value, Halt>
+fn constant(n: Number) -> Result<Value, EvalHalt>
     ensures { AnswersEvaluation tree result (within_numbers n) }
 {
     if is_number(n) {
         Ok(Value::Num(n))
     } else {
-        Err(Halt::Passes(LimitKind::Number))
+        Err(EvalHalt::Passes(LimitKind::Number))
     }
 }
 
 // A known value, where it is within the limit on lists.
-fn known(alloc: Global, value: &Value) -> Result<Value, Halt>
+fn known(alloc: Global, value: &Value) -> Result<Value, EvalHalt>
     ensures { AnswersEvaluation tree result (within_lists (tree value.now)) }
 {
     let copy = value.copy(alloc)?;
@@ -67,7 +67,7 @@ fn known(alloc: Global, value: &Value) -> Result<Value, Halt>
 }
 
 // The number with the other sign.
-fn negative(value: Value) -> Result<Value, Halt>
+fn negative(value: Value) -> Result<Value, EvalHalt>
     ensures { AnswersEvaluation tree result (negative_in (tree value)) }
 {
     let n = number_of(value)?;
@@ -75,7 +75,7 @@ fn negative(value: Value) -> Result<Value, Halt>
 }
 
 // The other truth value.
-fn contrary(value: Value) -> Result<Value, Halt>
+fn contrary(value: Value) -> Result<Value, EvalHalt>
     ensures { AnswersEvaluation tree result (negated_in (tree value)) }
 {
     let b = truth_of(value)?;
@@ -84,7 +84,7 @@ fn contrary(value: Value) -> Result<Value, Halt>
 
 // The value of an expression that is looked at or handed on: that of a bound name isn't copied, nor is a list that the store keeps.
 #[cycle(evaluate)]
-fn operand(levels: u32, expr: &Expr, lookup: &Lookup, calls: &mut u32) -> Result<Operand, Halt>
+fn operand(levels: u32, expr: &Expr, lookup: &Lookup, calls: &mut u32) -> Result<Operand, EvalHalt>
     ensures { AnswersReached operand_tree result calls.new
         (operand_in lookup.now levels (expr_tree expr.now) calls.old) }
 {
@@ -102,7 +102,12 @@ fn operand(levels: u32, expr: &Expr, lookup: &Lookup, calls: &mut u32) -> Result
 
 // The values of expressions from left to right.
 #[cycle(evaluate)]
-fn each(levels: u32, exprs: &Exprs, lookup: &Lookup, calls: &mut u32) -> Result<Vec<Value>, Halt>
+fn each(
+    levels: u32,
+    exprs: &Exprs,
+    lookup: &Lookup,
+    calls: &mut u32,
+) -> Result<Vec<Value>, EvalHalt>
     ensures { AnswersReached (λ values. map tree values.items) result calls.new
         (each (operand_in lookup.now levels) (expr_trees exprs.now) calls.old) }
 {
@@ -116,7 +121,7 @@ fn each(levels: u32, exprs: &Exprs, lookup: &Lookup, calls: &mut u32) -> Result<
 
 // Whether all are true; those after the first false one are not looked at.
 #[cycle(evaluate)]
-fn all_true(levels: u32, exprs: &Exprs, lookup: &Lookup, calls: &mut u32) -> Result<Value, Halt>
+fn all_true(levels: u32, exprs: &Exprs, lookup: &Lookup, calls: &mut u32) -> Result<Value, EvalHalt>
     ensures { AnswersReached tree result calls.new
         (all_true (operand_in lookup.now levels) (expr_trees exprs.now) calls.old) }
 {
@@ -138,7 +143,7 @@ fn one_true(
     second: &Expr,
     lookup: &Lookup,
     calls: &mut u32,
-) -> Result<Value, Halt>
+) -> Result<Value, EvalHalt>
     ensures { AnswersReached tree result calls.new
         (one_true (operand_in lookup.now levels) (expr_tree first.now) (expr_tree second.now)
         calls.old) }
@@ -162,7 +167,7 @@ fn operated(
     second: &Expr,
     lookup: &Lookup,
     calls: &mut u32,
-) -> Result<Value, Halt>
+) -> Result<Value, EvalHalt>
     ensures { AnswersReached tree result calls.new
         (operation_outcome (operand_in lookup.now levels) (operator_of op) (expr_tree first.now)
         (expr_tree second.now) calls.old) }
@@ -181,7 +186,7 @@ fn chosen(
     second: &Expr,
     lookup: &Lookup,
     calls: &mut u32,
-) -> Result<Value, Halt>
+) -> Result<Value, EvalHalt>
     ensures { AnswersReached tree result calls.new
         (chosen (operand_in lookup.now levels) (expr_tree condition.now) (expr_tree first.now)
         (expr_tree second.now) calls.old) }
@@ -203,7 +208,7 @@ fn element_of(
     index: &Expr,
     lookup: &Lookup,
     calls: &mut u32,
-) -> Result<Value, Halt>
+) -> Result<Value, EvalHalt>
     ensures { AnswersReached tree result calls.new
         (element_of (operand_in lookup.now levels) (expr_tree whole.now) (expr_tree index.now)
         calls.old) }
@@ -215,7 +220,7 @@ fn element_of(
 
 // The size of a place or of another value.
 #[cycle(evaluate)]
-fn size_of(levels: u32, expr: &Expr, lookup: &Lookup, calls: &mut u32) -> Result<Value, Halt>
+fn size_of(levels: u32, expr: &Expr, lookup: &Lookup, calls: &mut u32) -> Result<Value, EvalHalt>
     ensures { AnswersReached tree result calls.new
         (size_of (operand_in lookup.now levels) (place_at lookup.now levels)
         lookup.now.store.now.facts (bindings_of lookup.now.env.now) (is_place (expr_tree expr.now))
@@ -238,7 +243,7 @@ fn argument(
     expr: &Expr,
     lookup: &Lookup,
     calls: &mut u32,
-) -> Result<Binding, Halt>
+) -> Result<Binding, EvalHalt>
     ensures { AnswersReached binding_of result calls.new
         (argument (operand_in lookup.now levels) (place_at lookup.now levels) upper
         (expr_tree expr.now) calls.old) }
@@ -260,7 +265,7 @@ fn arguments(
     parameters: &Texts,
     lookup: &Lookup,
     calls: &mut u32,
-) -> Result<Env, Halt>
+) -> Result<Env, EvalHalt>
     ensures { AnswersReached bindings_of result calls.new
         (arguments (operand_in lookup.now levels) (place_at lookup.now levels) (expr_trees exprs.now)
         parameters.now calls.old) }
@@ -271,7 +276,7 @@ fn arguments(
         items.push(binding)?;
     }
     if exprs.items.len() != parameters.items.len() {
-        return Err(Halt::Faults(FaultKind::NoElement));
+        return Err(EvalHalt::Faults(FaultKind::NoElement));
     }
     Ok(Env { items })
 }
@@ -284,7 +289,7 @@ fn called(
     exprs: &Exprs,
     lookup: &Lookup,
     calls: &mut u32,
-) -> Result<Value, Halt>
+) -> Result<Value, EvalHalt>
     ensures { AnswersReached tree result calls.new
         (call_in lookup.now levels (Some (definition_of def.now)) (expr_trees exprs.now) calls.old) }
 {
@@ -296,7 +301,7 @@ fn called(
     };
     match &def.expr {
         Some(body) => evaluate(levels, body, &inside, calls),
-        None => Err(Halt::Faults(FaultKind::NoElement)),
+        None => Err(EvalHalt::Faults(FaultKind::NoElement)),
     }
 }
 
@@ -308,20 +313,20 @@ fn call(
     exprs: &Exprs,
     lookup: &Lookup,
     calls: &mut u32,
-) -> Result<Value, Halt>
+) -> Result<Value, EvalHalt>
     ensures { AnswersReached tree result calls.new
         (call_in lookup.now levels (slice_get (definitions_of lookup.now.defs.now) number)
         (expr_trees exprs.now) calls.old) }
 {
     match lookup.defs.items.get(number as usize) {
         Some(def) => called(levels, def, exprs, lookup, calls),
-        None => Err(Halt::Faults(FaultKind::NoElement)),
+        None => Err(EvalHalt::Faults(FaultKind::NoElement)),
     }
 }
 
 // The index that an expression gives. One that is written as a number, as most are, needs no whole evaluation.
 #[cycle(evaluate)]
-fn index_at(levels: u32, expr: &Expr, lookup: &Lookup, calls: &mut u32) -> Result<u32, Halt>
+fn index_at(levels: u32, expr: &Expr, lookup: &Lookup, calls: &mut u32) -> Result<u32, EvalHalt>
     ensures { AnswersReached as_it_is result calls.new
         (with_reached (operand_in lookup.now levels (expr_tree expr.now) calls.old) index_in) }
 {
@@ -341,12 +346,12 @@ pub fn find_place(
     expr: &Expr,
     lookup: &Lookup,
     calls: &mut u32,
-) -> Result<PlaceFound, Halt>
+) -> Result<PlaceFound, EvalHalt>
     ensures { AnswersReached place_in result calls.new
         (place_at lookup.now levels (expr_tree expr.now) calls.old) }
 {
     if levels == 0 {
-        return Err(Halt::Passes(LimitKind::Calls));
+        return Err(EvalHalt::Passes(LimitKind::Calls));
     }
     match expr {
         Expr::Bound(number) => named(lookup.alloc, lookup.env, *number),
@@ -367,13 +372,13 @@ pub fn find_place(
         | Expr::Either(..)
         | Expr::Op(..)
         | Expr::If(..)
-        | Expr::Call(..) => Err(Halt::Faults(FaultKind::NoElement)),
+        | Expr::Call(..) => Err(EvalHalt::Faults(FaultKind::NoElement)),
     }
 }
 
 // The value of a name followed by indices.
 #[cycle(evaluate)]
-fn read(levels: u32, expr: &Expr, lookup: &Lookup, calls: &mut u32) -> Result<Value, Halt>
+fn read(levels: u32, expr: &Expr, lookup: &Lookup, calls: &mut u32) -> Result<Value, EvalHalt>
     ensures { AnswersReached tree result calls.new
         (read_at lookup.now.store.now.facts (place_at lookup.now levels (expr_tree expr.now))
         calls.old) }
@@ -384,12 +389,17 @@ fn read(levels: u32, expr: &Expr, lookup: &Lookup, calls: &mut u32) -> Result<Va
 
 /// The value of an expression, where so many levels are left, and so many calls were made before.
 #[cycle(evaluate)]
-pub fn evaluate(levels: u32, expr: &Expr, lookup: &Lookup, calls: &mut u32) -> Result<Value, Halt>
+pub fn evaluate(
+    levels: u32,
+    expr: &Expr,
+    lookup: &Lookup,
+    calls: &mut u32,
+) -> Result<Value, EvalHalt>
     ensures { AnswersReached tree result calls.new
         (operand_in lookup.now levels (expr_tree expr.now) calls.old) }
 {
     if levels == 0 {
-        return Err(Halt::Passes(LimitKind::Calls));
+        return Err(EvalHalt::Passes(LimitKind::Calls));
     }
     let inner = levels - 1;
     match expr {

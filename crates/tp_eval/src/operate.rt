@@ -9,7 +9,7 @@ ghost use Rattle.tp_eval.specs.Evaluate.{operate_outcome, sum_in, on_divisor_out
 ghost use Rattle.tp_eval.specs.Answers.{AnswersEvaluation};
 ghost use Rattle.tp_store.specs.Operand.{operand_tree};
 
-use crate::halt::Halt;
+use crate::halt::EvalHalt;
 use crate::kinds::{items_of, limited, number_of, within};
 use std::alloc::Global;
 use tp_kernel::{FaultKind, Op2};
@@ -17,7 +17,7 @@ use tp_store::{Operand, owned, seen};
 use tp_value::{Items, Number, Value, difference, product, quotient, remainder, same, sum};
 
 // The first list with the second after it.
-fn append(first: Items, second: Items) -> Result<Value, Halt>
+fn append(first: Items, second: Items) -> Result<Value, EvalHalt>
     ensures { AnswersEvaluation tree result
         (within_lists
         (list (of_items (map tree first.items.items ++ map tree second.items.items)))) }
@@ -29,7 +29,7 @@ fn append(first: Items, second: Items) -> Result<Value, Halt>
 }
 
 // The sum of two numbers, or a list after a list.
-fn sum_of(a: Value, b: Value) -> Result<Value, Halt>
+fn sum_of(a: Value, b: Value) -> Result<Value, EvalHalt>
     ensures { AnswersEvaluation tree result (sum_in (tree a) (tree b)) }
 {
     match a {
@@ -37,7 +37,7 @@ fn sum_of(a: Value, b: Value) -> Result<Value, Halt>
             let n = number_of(b)?;
             within(sum(m, n))
         }
-        Value::Truth(_) => Err(Halt::Faults(FaultKind::WrongKind)),
+        Value::Truth(_) => Err(EvalHalt::Faults(FaultKind::WrongKind)),
         Value::List(first) => {
             let second = items_of(b)?;
             append(first, second)
@@ -46,26 +46,26 @@ fn sum_of(a: Value, b: Value) -> Result<Value, Halt>
 }
 
 // The quotient, rounded down.
-fn divide(m: Number, n: Number) -> Result<Value, Halt>
+fn divide(m: Number, n: Number) -> Result<Value, EvalHalt>
     ensures { AnswersEvaluation tree result (on_divisor_outcome floor_div m n) }
 {
     if n == 0 {
-        return Err(Halt::Faults(FaultKind::ZeroDivisor));
+        return Err(EvalHalt::Faults(FaultKind::ZeroDivisor));
     }
     within(quotient(m, n))
 }
 
 // What the quotient leaves of the dividend.
-fn reduce(m: Number, n: Number) -> Result<Value, Halt>
+fn reduce(m: Number, n: Number) -> Result<Value, EvalHalt>
     ensures { AnswersEvaluation tree result (on_divisor_outcome floor_mod m n) }
 {
     if n == 0 {
-        return Err(Halt::Faults(FaultKind::ZeroDivisor));
+        return Err(EvalHalt::Faults(FaultKind::ZeroDivisor));
     }
     within(remainder(m, n))
 }
 
-fn on_numbers(op: Op2, m: Number, n: Number) -> Result<Value, Halt>
+fn on_numbers(op: Op2, m: Number, n: Number) -> Result<Value, EvalHalt>
     ensures { AnswersEvaluation tree result (operate_outcome (operator_of op) (num m) (num n)) }
 {
     match op {
@@ -90,7 +90,7 @@ fn are_same(a: &Operand, b: &Operand) -> bool
 }
 
 /// What an operator makes of two values.
-pub fn operate(alloc: Global, op: Op2, a: Operand, b: Operand) -> Result<Value, Halt>
+pub fn operate(alloc: Global, op: Op2, a: Operand, b: Operand) -> Result<Value, EvalHalt>
     ensures { AnswersEvaluation tree result
         (operate_outcome (operator_of op) (operand_tree a) (operand_tree b)) }
 {
@@ -113,13 +113,13 @@ pub fn operate(alloc: Global, op: Op2, a: Operand, b: Operand) -> Result<Value, 
 }
 
 /// The item of a list at an index from 0.
-pub fn item_of(whole: Value, index: Value) -> Result<Value, Halt>
+pub fn item_of(whole: Value, index: Value) -> Result<Value, EvalHalt>
     ensures { AnswersEvaluation tree result (item_between (tree whole) (tree index)) }
 {
     let mut items = items_of(whole)?.items;
     let n = number_of(index)?;
     match usize::try_from(n) {
         Ok(place) if place < items.len() => Ok(items.swap_remove(place)),
-        _ => Err(Halt::Faults(FaultKind::NoElement)),
+        _ => Err(EvalHalt::Faults(FaultKind::NoElement)),
     }
 }

@@ -11,7 +11,7 @@ ghost use Rattle.tp_eval.specs.Evaluate.{at_path, inside, bound_place, bind_plac
 ghost use Rattle.tp_eval.specs.Places.{place_in};
 ghost use Rattle.tp_eval.specs.Answers.{AnswersEvaluation, as_it_is};
 
-use crate::halt::Halt;
+use crate::halt::EvalHalt;
 use std::alloc::Global;
 use std::rc::Rc;
 use tp_kernel::{Binding, Env, FaultKind, LimitKind};
@@ -33,7 +33,7 @@ pub fn whole(alloc: Global, var: VarId) -> PlaceFound
     PlaceFound::At(Path { var, at })
 }
 
-fn place_of_binding(alloc: Global, binding: &Binding) -> Result<PlaceFound, Halt>
+fn place_of_binding(alloc: Global, binding: &Binding) -> Result<PlaceFound, EvalHalt>
     ensures { AnswersEvaluation place_in result (bound_place (Some (binding_of binding.now))) }
 {
     match binding {
@@ -43,53 +43,53 @@ fn place_of_binding(alloc: Global, binding: &Binding) -> Result<PlaceFound, Halt
 }
 
 /// What the bound name with this number is.
-pub fn named(alloc: Global, env: &Env, number: u32) -> Result<PlaceFound, Halt>
+pub fn named(alloc: Global, env: &Env, number: u32) -> Result<PlaceFound, EvalHalt>
     ensures { AnswersEvaluation place_in result
         (bound_place (slice_get (bindings_of env.now) number)) }
 {
     match env.items.get(number as usize) {
         Some(binding) => place_of_binding(alloc, binding),
-        None => Err(Halt::Faults(FaultKind::NoElement)),
+        None => Err(EvalHalt::Faults(FaultKind::NoElement)),
     }
 }
 
 /// An index of a place: a number that is at least 0 and within the limit.
-pub fn index_of(value: Value) -> Result<u32, Halt>
+pub fn index_of(value: Value) -> Result<u32, EvalHalt>
     ensures { AnswersEvaluation as_it_is result (index_in (tree value)) }
 {
     match value {
         Value::Num(n) => index_from(n),
-        Value::Truth(_) => Err(Halt::Faults(FaultKind::WrongKind)),
-        Value::List(_) => Err(Halt::Faults(FaultKind::WrongKind)),
+        Value::Truth(_) => Err(EvalHalt::Faults(FaultKind::WrongKind)),
+        Value::List(_) => Err(EvalHalt::Faults(FaultKind::WrongKind)),
     }
 }
 
 /// The index that a number is.
-pub fn index_from(n: Number) -> Result<u32, Halt>
+pub fn index_from(n: Number) -> Result<u32, EvalHalt>
     ensures { AnswersEvaluation as_it_is result (index_in (num n)) }
 {
     if n < 0 {
-        return Err(Halt::Faults(FaultKind::NoElement));
+        return Err(EvalHalt::Faults(FaultKind::NoElement));
     }
     if n > Number::from(INDEX_LIMIT) {
-        return Err(Halt::Passes(LimitKind::List));
+        return Err(EvalHalt::Passes(LimitKind::List));
     }
     Ok(n as u32)
 }
 
 /// The path with one index more.
-pub fn farther_path(mut path: Path, index: u32) -> Result<Path, Halt>
+pub fn farther_path(mut path: Path, index: u32) -> Result<Path, EvalHalt>
     ensures { AnswersEvaluation at_path result (farther (at_path path) index) }
 {
     if path.at.items.len() >= PATH_LIMIT {
-        return Err(Halt::Passes(LimitKind::List));
+        return Err(EvalHalt::Passes(LimitKind::List));
     }
     path.at.items.push(index)?;
     Ok(path)
 }
 
 /// The place with one index more.
-pub fn farther(place: PlaceFound, index: u32) -> Result<PlaceFound, Halt>
+pub fn farther(place: PlaceFound, index: u32) -> Result<PlaceFound, EvalHalt>
     ensures { AnswersEvaluation place_in result (farther (place_in place) index) }
 {
     match place {
@@ -119,17 +119,17 @@ fn element<'a>(value: &'a Value, at: &[u32]) -> Option<&'a Value>
 }
 
 /// An equal value to the element at these indices.
-pub fn copy_element(alloc: Global, value: &Value, at: &[u32]) -> Result<Value, Halt>
+pub fn copy_element(alloc: Global, value: &Value, at: &[u32]) -> Result<Value, EvalHalt>
     ensures { AnswersEvaluation tree result (element_in (item_at at.now (tree value.now))) }
 {
     match element(value, at) {
         Some(inner) => Ok(inner.copy(alloc)?),
-        None => Err(Halt::Faults(FaultKind::NoElement)),
+        None => Err(EvalHalt::Faults(FaultKind::NoElement)),
     }
 }
 
 /// What a parameter is bound to that is given this place.
-pub fn bind_place(alloc: Global, place: PlaceFound) -> Result<Binding, Halt>
+pub fn bind_place(alloc: Global, place: PlaceFound) -> Result<Binding, EvalHalt>
     ensures { AnswersEvaluation binding_of result (bind_place (place_in place)) }
 {
     match place {
@@ -144,19 +144,19 @@ pub fn bind_place(alloc: Global, place: PlaceFound) -> Result<Binding, Halt>
     }
 }
 
-fn whole_value(known: Known) -> Result<Value, Halt>
+fn whole_value(known: Known) -> Result<Value, EvalHalt>
     ensures { AnswersEvaluation tree result (of_full (full_of known)) }
 {
     match known {
-        Known::Absent => Err(Halt::Faults(FaultKind::NoElement)),
-        Known::Open(path) => Err(Halt::Waits(path)),
-        Known::TooLong => Err(Halt::Passes(LimitKind::List)),
+        Known::Absent => Err(EvalHalt::Faults(FaultKind::NoElement)),
+        Known::Open(path) => Err(EvalHalt::Waits(path)),
+        Known::TooLong => Err(EvalHalt::Passes(LimitKind::List)),
         Known::Value(value) => Ok(value),
     }
 }
 
 /// The value of a place.
-pub fn value_at(alloc: Global, place: &PlaceFound, store: &Store) -> Result<Value, Halt>
+pub fn value_at(alloc: Global, place: &PlaceFound, store: &Store) -> Result<Value, EvalHalt>
     ensures { AnswersEvaluation tree result (value_at store.now.facts (place_in place.now)) }
 {
     match place {
@@ -168,50 +168,50 @@ pub fn value_at(alloc: Global, place: &PlaceFound, store: &Store) -> Result<Valu
     }
 }
 
-fn length_at(path: &Path, store: &Store) -> Result<Value, Halt>
+fn length_at(path: &Path, store: &Store) -> Result<Value, EvalHalt>
     ensures { AnswersEvaluation tree result (size_at store.now.facts (at_path path.now)) }
 {
     match store.shape(path) {
         Some(Shape::Items(count)) => Ok(Value::Num(Number::from(count))),
-        Some(Shape::Num(_)) => Err(Halt::Faults(FaultKind::WrongKind)),
-        Some(Shape::Truth(_)) => Err(Halt::Faults(FaultKind::WrongKind)),
+        Some(Shape::Num(_)) => Err(EvalHalt::Faults(FaultKind::WrongKind)),
+        Some(Shape::Truth(_)) => Err(EvalHalt::Faults(FaultKind::WrongKind)),
         None => unkept_length(path, store),
     }
 }
 
 // Where no shape is kept for the path, its length is open, or there is no such element.
-fn unkept_length(path: &Path, store: &Store) -> Result<Value, Halt>
+fn unkept_length(path: &Path, store: &Store) -> Result<Value, EvalHalt>
     requires { kept_shape store.now.facts path.now ≡ None }
     ensures { AnswersEvaluation tree result (size_at store.now.facts (at_path path.now)) }
 {
     if store.excludes(path) {
-        return Err(Halt::Faults(FaultKind::NoElement));
+        return Err(EvalHalt::Faults(FaultKind::NoElement));
     }
-    Err(Halt::Waits(path.copy()?))
+    Err(EvalHalt::Waits(path.copy()?))
 }
 
 /// The length of a list, where the value is one.
-pub fn length_of(value: &Value) -> Result<Value, Halt>
+pub fn length_of(value: &Value) -> Result<Value, EvalHalt>
     ensures { AnswersEvaluation tree result (length_of (tree value.now)) }
 {
     match value {
-        Value::Num(_) => Err(Halt::Faults(FaultKind::WrongKind)),
-        Value::Truth(_) => Err(Halt::Faults(FaultKind::WrongKind)),
+        Value::Num(_) => Err(EvalHalt::Faults(FaultKind::WrongKind)),
+        Value::Truth(_) => Err(EvalHalt::Faults(FaultKind::WrongKind)),
         Value::List(all) => Ok(Value::Num(all.items.len() as Number)),
     }
 }
 
-fn element_length(value: &Value, at: &[u32]) -> Result<Value, Halt>
+fn element_length(value: &Value, at: &[u32]) -> Result<Value, EvalHalt>
     ensures { AnswersEvaluation tree result (size_at [] (inside (tree value.now) at.now)) }
 {
     match element(value, at) {
         Some(inner) => length_of(inner),
-        None => Err(Halt::Faults(FaultKind::NoElement)),
+        None => Err(EvalHalt::Faults(FaultKind::NoElement)),
     }
 }
 
 /// The size of a place, for which its shape is enough.
-pub fn size_at(place: &PlaceFound, store: &Store) -> Result<Value, Halt>
+pub fn size_at(place: &PlaceFound, store: &Store) -> Result<Value, EvalHalt>
     ensures { AnswersEvaluation tree result (size_at store.now.facts (place_in place.now)) }
 {
     match place {

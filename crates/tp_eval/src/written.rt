@@ -7,7 +7,7 @@ ghost use Rattle.tp_eval.specs.Evaluate.{at_path};
 ghost use Rattle.tp_eval.specs.Answers.{place_at};
 ghost use Rattle.tp_eval.specs.Operand.{named_path};
 
-use crate::halt::Halt;
+use crate::halt::EvalHalt;
 use crate::lookup::Lookup;
 use crate::operand::{Name, place_named};
 use crate::places::{farther_path, index_from};
@@ -55,7 +55,7 @@ pub fn written_item(lookup: &Lookup, expr: &Expr) -> Result<Option<Path>, NoMemo
     };
     match farther_path(path, k) {
         Ok(path) => Ok(Some(path)),
-        Err(Halt::NoMemory) => Err(NoMemory),
-        Err(Halt::Waits(_) | Halt::Faults(_) | Halt::Passes(_)) => Ok(None),
+        Err(EvalHalt::NoMemory) => Err(NoMemory),
+        Err(EvalHalt::Waits(_) | EvalHalt::Faults(_) | EvalHalt::Passes(_)) => Ok(None),
     }
 }

@@ -3,7 +3,7 @@ use Rattle.std.proofs.Common.{refl, ap, sym, subst, ◌∙◌, ◌≡◌, ℕ, z
 use Rattle.std.specs.Str.Lines.{lines}
 use Rattle.tp_value.specs.Tree.{Tree}
 use Rattle.tp_meaning.specs.Inputs.{InputTable}
-use Rattle.tp_inputs.specs.declared.fault.Fault.{Fault}
+use Rattle.tp_inputs.specs.declared.fault.LineFault.{LineFault}
 use Rattle.tp_inputs.specs.declared.span.Span.{Span}
 use Rattle.tp_inputs.specs.declared.span.LineHead.{LineHead}
 use Rattle.tp_inputs.specs.declared.span.LineHead.TheVariants.{Speaks, Silent, Unheard}
@@ -28,7 +28,7 @@ some_bytes (Faulty fault) most t = t
 -- how a reading ends: with the whole line, or at a fault
 data LineEnding : Type 0 where
   Whole : LineEnding
-  Fails : Fault → LineEnding
+  Fails : LineFault → LineEnding
 
 module _ (span : Span) where
   one_part : (table : InputTable) (z : List ℕ) (p q : InputPart) → BeginsPart span table z p → BeginsPart span table z q → p ≡ q
@@ -50,7 +50,7 @@ module _ (span : Span) where
       let values : t ≡ u = cc in
       (one_given span p t table a b g (subst (λ (k : List ℕ). GivesValue span k t table b) (sym ports) (subst (λ (v : Tree). GivesValue span q v table b) (sym values) h)), cc)
 
-  no_faulty_pass : (z : List ℕ) (table more : InputTable) (n : ℕ) (f : Fault) → PassesPart span z table more n → BeginsFault span table z f → ⊥
+  no_faulty_pass : (z : List ℕ) (table more : InputTable) (n : ℕ) (f : LineFault) → PassesPart span z table more n → BeginsFault span table z f → ⊥
   no_faulty_pass z table _ _ f (blank is) js = let same : Blank ≡ Faulty f = one_part table z Blank (Faulty f) is js in cc
   no_faulty_pass z table _ _ f (given {port = p} {value = t} {n = n} is g) js = let same : Given p t n ≡ Faulty f = one_part table z (Given p t n) (Faulty f) is js in cc
 
@@ -121,14 +121,14 @@ one_line (Speaks span n) line table t u a b = (one_reading span (drop n line) ta
 one_line Silent line table t u a b = a ∙ sym b
 one_line Unheard line table t u a b = absurd a
 
-one_fault : (h : LineHead) (line : List ℕ) (table : InputTable) (e f : Fault) → HasFault h line table e → HasFault h line table f → e ≡ f
+one_fault : (h : LineHead) (line : List ℕ) (table : InputTable) (e f : LineFault) → HasFault h line table e → HasFault h line table f → e ≡ f
 one_fault (Speaks span n) line table e f a b =
     let same : Fails e ≡ Fails f = (one_reading span (drop n line) table a.rest b.rest a.more b.more (Fails e) (Fails f) a.reads a.faulty b.reads b.faulty).1 in
     cc
 one_fault Silent line table e f a b = absurd a
 one_fault Unheard line table e f a b = a ∙ sym b
 
-no_faulty_line : (h : LineHead) (line : List ℕ) (table t : InputTable) (f : Fault) → IsLine h line table t → HasFault h line table f → ⊥
+no_faulty_line : (h : LineHead) (line : List ℕ) (table t : InputTable) (f : LineFault) → IsLine h line table t → HasFault h line table f → ⊥
 no_faulty_line (Speaks span n) line table t f a b =
     let same : Whole ≡ Fails f = (one_reading span (drop n line) table [] b.rest t b.more Whole (Fails f) a refl b.reads b.faulty).1 in
     absurd cc
@@ -141,7 +141,7 @@ line_canonical Silent line table t a c = subst IsCanonical (sym a) c
 line_canonical Unheard line table t a c = absurd a
 
 abbrev Judged : LineHead → List ℕ → InputTable → Type 0
-Judged h line table = ((more : InputTable) × IsLine h line table more) ⊎ ((f : Fault) × HasFault h line table f)
+Judged h line table = ((more : InputTable) × IsLine h line table more) ⊎ ((f : LineFault) × HasFault h line table f)
 
 judged_pairs : (span : Span) (n : ℕ) (line : List ℕ) (table : InputTable) → Read span (drop n line) table → Judged (Speaks span n) line table
 judged_pairs span n line table (rest, all, Whole, reads, e) = inl (all, subst (λ (z : List ℕ). ReadsPairs span (drop n line) table z all) e reads)
@@ -154,7 +154,7 @@ judged Unheard line table ordered c = inr (_, refl)
 
 -- ---- texts, of which the first has this number
 
-record FaultFrom (second : Bool) (k : ℕ) (texts : List (List ℕ)) (first : InputTable) (number : ℕ) (fault : Fault) : Type 0 where
+record FaultFrom (second : Bool) (k : ℕ) (texts : List (List ℕ)) (first : InputTable) (number : ℕ) (fault : LineFault) : Type 0 where
   before : List (List ℕ)
   line : List ℕ
   after : List (List ℕ)
@@ -166,7 +166,7 @@ record FaultFrom (second : Bool) (k : ℕ) (texts : List (List ℕ)) (first : In
 
 module _ (second : Bool) where
   abbrev TextsJudged : ℕ → List (List ℕ) → InputTable → Type 0
-  TextsJudged k texts table = ((all : InputTable) × AreLines second k texts table all) ⊎ ((number : ℕ) × (f : Fault) × FaultFrom second k texts table number f)
+  TextsJudged k texts table = ((all : InputTable) × AreLines second k texts table all) ⊎ ((number : ℕ) × (f : LineFault) × FaultFrom second k texts table number f)
 
   judged_on : (k : ℕ) (line : List ℕ) (texts : List (List ℕ)) (table : InputTable) → Judged (head_of second k line) line table
       → ((more : InputTable) → IsLine (head_of second k line) line table more → TextsJudged (k + 1) texts more) → TextsJudged k (line ∷ texts) table
@@ -205,17 +205,17 @@ module _ (second : Bool) where
       one_table_of (k + 1) texts more t u are (subst (λ (v : InputTable). AreLines second (k + 1) texts v u) (sym same) bre)
 
   -- a fault at a place that is no other place's
-  moved : (i j : ℕ) (line : List ℕ) (t u : InputTable) (f : Fault) → i ≡ j → t ≡ u → HasFault (head_of second i line) line t f → HasFault (head_of second j line) line u f
+  moved : (i j : ℕ) (line : List ℕ) (t u : InputTable) (f : LineFault) → i ≡ j → t ≡ u → HasFault (head_of second i line) line t f → HasFault (head_of second j line) line u f
   moved i j line t u f e g has = subst (λ (v : InputTable). HasFault (head_of second j line) line v f) g (subst (λ (k : ℕ). HasFault (head_of second k line) line t f) e has)
 
-  no_fault_within : (k i : ℕ) (before : List (List ℕ)) (line : List ℕ) (after : List (List ℕ)) (table all t : InputTable) (f : Fault) → i ≡ k + length before → AreLines second k (before ++ line ∷ after) table all
+  no_fault_within : (k i : ℕ) (before : List (List ℕ)) (line : List ℕ) (after : List (List ℕ)) (table all t : InputTable) (f : LineFault) → i ≡ k + length before → AreLines second k (before ++ line ∷ after) table all
       → AreLines second k before table t → HasFault (head_of second i line) line t f → ⊥
   no_fault_within k i [] line after table all t f e (more, is, are) good has = no_faulty_line (head_of second k line) line table more f is (moved i k line t table f (omega arith) good has)
   no_fault_within k i (text ∷ before) line after table all t f e (more, is, are) (other, js, good) has =
       let same = one_line (head_of second k text) text table other more js is in
       no_fault_within (k + 1) i before line after more all t f (omega arith) are (subst (λ (v : InputTable). AreLines second (k + 1) before v t) same good) has
 
-  one_place : (k i j : ℕ) (b c : List (List ℕ)) (l m : List ℕ) (x y : List (List ℕ)) (table t u : InputTable) (e f : Fault) → b ++ l ∷ x ≡ c ++ m ∷ y → i ≡ k + length b → j ≡ k + length c
+  one_place : (k i j : ℕ) (b c : List (List ℕ)) (l m : List ℕ) (x y : List (List ℕ)) (table t u : InputTable) (e f : LineFault) → b ++ l ∷ x ≡ c ++ m ∷ y → i ≡ k + length b → j ≡ k + length c
       → AreLines second k b table t → AreLines second k c table u → HasFault (head_of second i l) l t e → HasFault (head_of second j m) m u f → (length b ≡ length c) × (e ≡ f)
   one_place k i j [] [] l m x y table t u e f q o p a d g h =
       let same : l ≡ m = cc in
@@ -236,7 +236,7 @@ module _ (second : Bool) where
 
 -- ---- the laws
 
-first_fault : (texts : List (List ℕ)) (number : ℕ) (f : Fault) → FaultFrom (has_ranges texts) 0 texts [] number f → IsFirstFault texts (number + 1) f
+first_fault : (texts : List (List ℕ)) (number : ℕ) (f : LineFault) → FaultFrom (has_ranges texts) 0 texts [] number f → IsFirstFault texts (number + 1) f
 first_fault texts number f at =
     let here : number ≡ length at.before = let e = at.place in omega arith in
     record {
@@ -253,7 +253,7 @@ first_fault texts number f at =
 pub each_text : EachTextIsJudged
 each_text bytes = at (texts_judged (has_ranges (lines bytes)) 0 (lines bytes) [] none_canonical)
   where
-    at : TextsJudged (has_ranges (lines bytes)) 0 (lines bytes) [] → ((table : InputTable) × AreLines (has_ranges (lines bytes)) 0 (lines bytes) [] table) ⊎ ((line : ℕ) × (fault : Fault) × IsFirstFault (lines bytes) line fault)
+    at : TextsJudged (has_ranges (lines bytes)) 0 (lines bytes) [] → ((table : InputTable) × AreLines (has_ranges (lines bytes)) 0 (lines bytes) [] table) ⊎ ((line : ℕ) × (fault : LineFault) × IsFirstFault (lines bytes) line fault)
     at (inl is) = inl is
     at (inr (number, f, found)) = inr (number + 1, f, first_fault (lines bytes) number f found)
 

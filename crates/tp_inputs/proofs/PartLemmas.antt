@@ -13,7 +13,7 @@ use Rattle.tp_lex.specs.Bytes.{is_name_byte, name_limit}
 use Rattle.tp_lex.specs.Spelled.{spelled_word}
 use Rattle.tp_lex.proofs.SpellingLemmas.{word_is, no_word}
 use Rattle.tp_meaning.specs.Inputs.{InputTable}
-use Rattle.tp_inputs.specs.declared.fault.Fault.TheVariants as f
+use Rattle.tp_inputs.specs.declared.fault.LineFault.TheVariants as f
 use Rattle.tp_inputs.specs.declared.part.FoundPart.{FoundPart}
 use Rattle.tp_inputs.specs.declared.span.Span.{Span}
 use Rattle.tp_inputs.specs.Spans.{is_given}

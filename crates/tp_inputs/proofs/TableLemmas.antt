@@ -3,8 +3,8 @@ use Rattle.std.proofs.Common.{refl, ap, sym, subst, ◌∙◌, ◌≡◌, ℕ, �
 use Rattle.std.proofs.lemmas.List.{append_assoc, length-append, append-nil}
 use Rattle.std.specs.Str.Lines.{lines}
 use Rattle.tp_meaning.specs.Inputs.{InputTable}
-use Rattle.tp_inputs.specs.declared.fault.Fault.{Fault}
-use Rattle.tp_inputs.specs.declared.fault.Fault.TheVariants.{Bad, Twice, TooLong}
+use Rattle.tp_inputs.specs.declared.fault.LineFault.{LineFault}
+use Rattle.tp_inputs.specs.declared.fault.LineFault.TheVariants.{Bad, Twice, TooLong}
 use Rattle.tp_inputs.specs.declared.refusal.LineRefusal.{LineRefusal}
 use Rattle.tp_inputs.specs.declared.refusal.LineRefusal.TheVariants as l
 use Rattle.tp_inputs.specs.Spans.{has_ranges, head_of}
@@ -41,7 +41,7 @@ line_more second texts number table more line left r is = record {
   good = lines_more second 0 r.before line [] table more r.good (subst (λ (n : ℕ). IsLine (head_of second n line) line table more) (let a = r.numbered in omega arith) is);
 }
 
-fault_in : (texts : List (List ℕ)) (number : ℕ) (table : InputTable) (line : List ℕ) (left : List (List ℕ)) (fault : Fault) → ReadsSoFar (has_ranges texts) texts number table (line ∷ left)
+fault_in : (texts : List (List ℕ)) (number : ℕ) (table : InputTable) (line : List ℕ) (left : List (List ℕ)) (fault : LineFault) → ReadsSoFar (has_ranges texts) texts number table (line ∷ left)
     → HasFault (head_of (has_ranges texts) number line) line table fault → IsFirstFault texts (number + 1) fault
 fault_in texts number table line left fault r has = record {
   before = r.before;

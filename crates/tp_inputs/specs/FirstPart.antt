@@ -10,15 +10,15 @@ use Rattle.tp_lex.specs.Spelled.{spelled_word}
 use Rattle.tp_meaning.specs.Inputs.{InputTable}
 use Rattle.tp_inputs.specs.declared.span.Span.{Span}
 use Rattle.tp_inputs.specs.Spans.{is_given}
-use Rattle.tp_inputs.specs.declared.fault.Fault.TheVariants as f
-use Rattle.tp_inputs.specs.declared.fault.Fault.{Fault}
+use Rattle.tp_inputs.specs.declared.fault.LineFault.TheVariants as f
+use Rattle.tp_inputs.specs.declared.fault.LineFault.{LineFault}
 use Rattle.tp_inputs.specs.Table.{is_set_apart, BeginsPair, fault_of, BeginsFault}
 
 -- a blank, a pair with the number of its bytes, or a fault
 pub data InputPart : Type 0 where
   Blank : InputPart
   Given : List ℕ → Tree → ℕ → InputPart
-  Faulty : Fault → InputPart
+  Faulty : LineFault → InputPart
 
 -- the rest of a line, which is not empty and speaks for this span behind this table, begins with
 -- this

@@ -1,7 +1,7 @@
 -- When a text of inputs is refused.
 use Rattle.std.specs.Prelude.{ℕ, List}
 use Rattle.std.specs.Str.Lines.{lines}
-use Rattle.tp_inputs.specs.declared.fault.Fault.TheVariants.{Bad, Twice, TooLong}
+use Rattle.tp_inputs.specs.declared.fault.LineFault.TheVariants.{Bad, Twice, TooLong}
 use Rattle.tp_inputs.specs.declared.refusal.InputsRefusal.{InputsRefusal}
 use Rattle.tp_inputs.specs.declared.refusal.InputsRefusal.TheVariants as r
 use Rattle.tp_inputs.specs.Table.{IsFirstFault}

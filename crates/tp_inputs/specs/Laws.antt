@@ -6,7 +6,7 @@ use Rattle.tp_value.specs.declared.reading.ReadValue.TheVariants.{NoMemory}
 use Rattle.tp_value.specs.Reading.{refused, value_answer}
 use Rattle.tp_value.specs.Answers.{IsReadRefused}
 use Rattle.tp_meaning.specs.Inputs.{InputTable}
-use Rattle.tp_inputs.specs.declared.fault.Fault.{Fault}
+use Rattle.tp_inputs.specs.declared.fault.LineFault.{LineFault}
 use Rattle.tp_inputs.specs.Spans.{last_state}
 use Rattle.tp_inputs.specs.Converted.{EndsWithin, converted}
 use Rattle.tp_inputs.specs.Table.{IsInputsText, IsFirstFault}
@@ -16,20 +16,20 @@ use Rattle.tp_inputs.specs.Within.{InputsWithin}
 abbrev pub EachTextIsJudged : Type 0
 EachTextIsJudged =
     (bytes : List ℕ) → ((table : InputTable) × IsInputsText bytes table)
-    ⊎ ((line : ℕ) × (fault : Fault) × IsFirstFault (lines bytes) line fault)
+    ⊎ ((line : ℕ) × (fault : LineFault) × IsFirstFault (lines bytes) line fault)
 
 abbrev pub OneTable : Type 0
 OneTable = (bytes : List ℕ) (t u : InputTable) → IsInputsText bytes t → IsInputsText bytes u → t ≡ u
 
 abbrev pub OneFirstFault : Type 0
 OneFirstFault =
-    (bytes : List ℕ) (m n : ℕ) (e f : Fault) → IsFirstFault (lines bytes) m e
+    (bytes : List ℕ) (m n : ℕ) (e f : LineFault) → IsFirstFault (lines bytes) m e
     → IsFirstFault (lines bytes) n f → (m ≡ n) × (e ≡ f)
 
 -- bytes with a fault are no table
 abbrev pub NoFaultyTable : Type 0
 NoFaultyTable =
-    (bytes : List ℕ) (t : InputTable) (n : ℕ) (f : Fault) → IsInputsText bytes t
+    (bytes : List ℕ) (t : InputTable) (n : ℕ) (f : LineFault) → IsInputsText bytes t
     → ¬ IsFirstFault (lines bytes) n f
 
 -- a value that is refused is refused for its first cause

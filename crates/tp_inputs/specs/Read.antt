@@ -5,7 +5,7 @@ use Rattle.tp_meaning.specs.Inputs.{InputTable}
 use Rattle.tp_inputs.specs.declared.inputs.Inputs.{Inputs}
 use Rattle.tp_inputs.specs.declared.part.FoundPart.{FoundPart}
 use Rattle.tp_inputs.specs.declared.part.FoundPart.TheVariants as p
-use Rattle.tp_inputs.specs.declared.fault.Fault.TheVariants.{Bad, Twice, TooLong}
+use Rattle.tp_inputs.specs.declared.fault.LineFault.TheVariants.{Bad, Twice, TooLong}
 use Rattle.tp_inputs.specs.declared.refusal.InputsRefusal.{InputsRefusal}
 use Rattle.tp_inputs.specs.declared.refusal.InputsRefusal.TheVariants as r
 use Rattle.tp_inputs.specs.declared.refusal.LineRefusal.{LineRefusal}

@@ -14,8 +14,8 @@ use Rattle.tp_inputs.specs.declared.span.LineHead.TheVariants.{Speaks, Silent, U
 use Rattle.tp_value.specs.declared.reading.ReadValue.{ReadValue}
 use Rattle.tp_value.specs.declared.reading.ReadValue.TheVariants.{NoValue, TooLarge, TooLong, TooDeep, NoMemory}
 use Rattle.tp_value.specs.Reading.{refused, value_answer}
-use Rattle.tp_inputs.specs.declared.fault.Fault.{Fault}
-use Rattle.tp_inputs.specs.declared.fault.Fault.TheVariants as f
+use Rattle.tp_inputs.specs.declared.fault.LineFault.{LineFault}
+use Rattle.tp_inputs.specs.declared.fault.LineFault.TheVariants as f
 use Rattle.std.specs.Str.Lines.{lines}
 
 -- ---- what a line begins with where it is read: a blank or a pair
@@ -73,7 +73,7 @@ abbrev pub IsGivenPort : Span → InputTable → List ℕ → Type 0
 IsGivenPort span table port = is_given table span port ≡ true
 
 -- what a value that is refused makes of its line; `NoMemory` is never the answer to bytes
-abbrev pub fault_of : ReadValue → Fault
+abbrev pub fault_of : ReadValue → LineFault
 fault_of (NoValue at) = f.Bad
 fault_of (TooLarge at) = f.Bad
 fault_of (TooLong at) = f.TooLong
@@ -81,7 +81,7 @@ fault_of (TooDeep at) = f.TooLong
 fault_of NoMemory = f.Bad
 
 -- the rest of a line, which speaks for this span behind this table, begins with a fault
-pub data BeginsFault (span : Span) (table : InputTable) (z : List ℕ) : Fault → Type 0 where
+pub data BeginsFault (span : Span) (table : InputTable) (z : List ℕ) : LineFault → Type 0 where
   no_port : z ≢ [] → is_value_blank (slice_index z 0) ≡ false → ((n : ℕ) → ¬ BeginsPort z n)
       → BeginsFault span table z f.Bad
   twice : {n : ℕ} → BeginsPort z n → IsGivenPort span table (take n z)
@@ -92,14 +92,15 @@ pub data BeginsFault (span : Span) (table : InputTable) (z : List ℕ) : Fault �
       → IsRead z (n + 1) t m → is_set_apart z m ≡ false → BeginsFault span table z f.Bad
 
 -- the pairs are read up to this fault
-pub record StopsAt (span : Span) (z : List ℕ) (table : InputTable) (fault : Fault) : Type 0 where
+pub record StopsAt (span : Span) (z : List ℕ) (table : InputTable) (fault : LineFault)
+    : Type 0 where
   pub rest : List ℕ
   pub more : InputTable
   pub reads : ReadsPairs span z table rest more
   pub faulty : BeginsFault span more rest fault
 
 -- the line, behind this table, is read up to this fault
-abbrev pub HasFault : LineHead → List ℕ → InputTable → Fault → Type 0
+abbrev pub HasFault : LineHead → List ℕ → InputTable → LineFault → Type 0
 HasFault (Speaks span n) line table fault = StopsAt span (drop n line) table fault
 HasFault Silent line table fault = ⊥
 HasFault Unheard line table fault = fault ≡ f.Bad
@@ -121,7 +122,7 @@ IsInputsText bytes table = AreLines (has_ranges (lines bytes)) 0 (lines bytes) [
 
 -- of the lines, that with this number, from 1, has this as its first fault, and those before it
 -- have none
-pub record IsFirstFault (texts : List (List ℕ)) (number : ℕ) (fault : Fault) : Type 0 where
+pub record IsFirstFault (texts : List (List ℕ)) (number : ℕ) (fault : LineFault) : Type 0 where
   pub before : List (List ℕ)
   pub line : List ℕ
   pub after : List (List ℕ)

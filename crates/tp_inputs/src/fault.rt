@@ -1,7 +1,7 @@
 // Faults of a line of inputs.
 /// The first fault of a line.
 #[derive(Clone, Copy)]
-pub enum Fault {
+pub enum LineFault {
     Bad,
     Twice,
     TooLong,

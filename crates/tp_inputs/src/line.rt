@@ -6,7 +6,7 @@ ghost use Rattle.tp_inputs.specs.Table.{PassesPart, ReadsPairs, IsLine};
 ghost use Rattle.tp_inputs.specs.Model.{table_of};
 ghost use Rattle.tp_inputs.specs.Read.{IsPartRefusal, IsPairsRefusal, IsLineRefusal};
 
-use crate::fault::Fault;
+use crate::fault::LineFault;
 use crate::part::{FoundPart, first_part};
 use crate::ports::Ports;
 use crate::refusal::LineRefusal;
@@ -34,13 +34,13 @@ fn take_part(
             if ports.give(alloc, span, port, value)? {
                 Ok(len)
             } else {
-                Err(LineRefusal::Fault(Fault::Twice))
+                Err(LineRefusal::Fault(LineFault::Twice))
             }
         }
         FoundPart::Valueless(port, fault) => {
             // The second value of a port is at fault whatever it is.
             if ports.has(span, &port) {
-                Err(LineRefusal::Fault(Fault::Twice))
+                Err(LineRefusal::Fault(LineFault::Twice))
             } else {
                 Err(LineRefusal::Fault(fault))
             }
@@ -85,6 +85,6 @@ pub fn take_line(
     match head {
         LineHead::Speaks(span, len) => take_pairs(alloc, &line[len..], span, ports),
         LineHead::Silent => Ok(()),
-        LineHead::Unheard => Err(LineRefusal::Fault(Fault::Bad)),
+        LineHead::Unheard => Err(LineRefusal::Fault(LineFault::Bad)),
     }
 }

@@ -9,7 +9,7 @@ ghost use Rattle.tp_inputs.specs.declared.span.Span.{Span};
 ghost use Rattle.tp_meaning.specs.Inputs.{InputTable};
 ghost use Rattle.tp_inputs.specs.Read.{part_of};
 
-use crate::fault::Fault;
+use crate::fault::LineFault;
 use crate::head::is_blank;
 use std::alloc::Global;
 use tp_lex::{NAME_LIMIT, name_len, word_of};
@@ -22,8 +22,8 @@ pub enum FoundPart {
     /// A port, its value, and how many bytes the pair has.
     Pair(Text, Value, usize),
     /// A port, and the fault of what stands for its value.
-    Valueless(Text, Fault),
-    Fault(Fault),
+    Valueless(Text, LineFault),
+    Fault(LineFault),
 }
 
 // Whether behind the first bytes comes a blank or the line's end.
@@ -50,13 +50,13 @@ fn port_len(text: &[u8]) -> Option<usize>
 }
 
 // What a value that is refused makes of its line.
-fn fault_of(refusal: ReadValue) -> Result<Fault, NoMemory>
+fn fault_of(refusal: ReadValue) -> Result<LineFault, NoMemory>
     ensures fault { IfOk result (λ fault. fault ≡ fault_of refusal) }
     ensures told { IfOk result (λ _. refusal ≢ refused_memory) }
 {
     match refusal {
-        ReadValue::NoValue { .. } | ReadValue::TooLarge { .. } => Ok(Fault::Bad),
-        ReadValue::TooLong { .. } | ReadValue::TooDeep { .. } => Ok(Fault::TooLong),
+        ReadValue::NoValue { .. } | ReadValue::TooLarge { .. } => Ok(LineFault::Bad),
+        ReadValue::TooLong { .. } | ReadValue::TooDeep { .. } => Ok(LineFault::TooLong),
         ReadValue::NoMemory => Err(NoMemory),
     }
 }
@@ -73,7 +73,7 @@ fn valued_part(alloc: Global, text: &[u8], port: Text, from: usize) -> Result<Fo
             if is_set_apart(text, len) {
                 Ok(FoundPart::Pair(port, value, len))
             } else {
-                Ok(FoundPart::Valueless(port, Fault::Bad))
+                Ok(FoundPart::Valueless(port, LineFault::Bad))
             }
         }
         Err(refusal) => Ok(FoundPart::Valueless(port, fault_of(refusal)?)),
@@ -92,7 +92,7 @@ fn pair_part(alloc: Global, text: &[u8]) -> Result<FoundPart, NoMemory>
             let port = Text::from_slice(alloc, &text[..len])?;
             valued_part(alloc, text, port, len + 1)
         }
-        None => Ok(FoundPart::Fault(Fault::Bad)),
+        None => Ok(FoundPart::Fault(LineFault::Bad)),
     }
 }
 

@@ -3,7 +3,7 @@ ghost use Rattle.std.specs.Prelude.{◌≡◌};
 ghost use Rattle.tp_inputs.specs.declared.refusal.LineRefusal.TheVariants.{NoMemory as line_memory};
 ghost use Rattle.tp_inputs.specs.Read.{refusal_in};
 
-use crate::fault::Fault;
+use crate::fault::LineFault;
 use tp_value::NoMemory;
 
 /// The first line that is refused, counted from 1, with its first fault, or want of memory.
@@ -21,7 +21,7 @@ pub enum InputsRefusal {
 /// Why a line is refused: its first fault, or want of memory.
 #[derive(Clone, Copy)]
 pub enum LineRefusal {
-    Fault(Fault),
+    Fault(LineFault),
     NoMemory,
 }
 
@@ -31,9 +31,9 @@ impl LineRefusal {
         ensures { result ≡ refusal_in self line }
     {
         match self {
-            LineRefusal::Fault(Fault::Bad) => InputsRefusal::BadLine { line },
-            LineRefusal::Fault(Fault::Twice) => InputsRefusal::TwicePort { line },
-            LineRefusal::Fault(Fault::TooLong) => InputsRefusal::TooLong { line },
+            LineRefusal::Fault(LineFault::Bad) => InputsRefusal::BadLine { line },
+            LineRefusal::Fault(LineFault::Twice) => InputsRefusal::TwicePort { line },
+            LineRefusal::Fault(LineFault::TooLong) => InputsRefusal::TooLong { line },
             LineRefusal::NoMemory => InputsRefusal::NoMemory,
         }
     }

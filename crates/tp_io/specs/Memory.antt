@@ -6,7 +6,7 @@ use Rattle.tp_io.specs.Held.{Held, FileRequest, file_request}
 use Rattle.tp_io.specs.declared.memory.Content.{Content}
 use Rattle.tp_io.specs.declared.memory.Failure.{Failure}
 use Rattle.tp_io.specs.declared.memory.Request.{Request}
-use Rattle.tp_io.specs.declared.memory.Piece.{Piece}
+use Rattle.tp_io.specs.declared.memory.WrittenPiece.{WrittenPiece}
 
 -- of two contents of one name the first counts
 abbrev pub held_of : List Content → Held
@@ -19,11 +19,11 @@ asked_of requests = map (λ (r : Request). file_request r.name r.most) requests
 abbrev pub failed_reads : List Request → ℕ
 failed_reads requests = count_by (λ (r : Request). r.failed) requests
 
-abbrev pub text_of : List Piece → List ℕ
-text_of pieces = flat_map (λ (p : Piece). p.bytes) pieces
+abbrev pub text_of : List WrittenPiece → List ℕ
+text_of pieces = flat_map (λ (p : WrittenPiece). p.bytes) pieces
 
-abbrev pub failed_writes : List Piece → ℕ
-failed_writes pieces = count_by (λ (p : Piece). p.failed) pieces
+abbrev pub failed_writes : List WrittenPiece → ℕ
+failed_writes pieces = count_by (λ (p : WrittenPiece). p.failed) pieces
 
 -- what contracts see of a shelf: its contents, the numbers of the calls that are to fail, what was
 -- asked for, and how often a read failed

@@ -29,7 +29,7 @@ pub struct Request {
 
 /// What one write appended, and whether it failed.
 #[derive(Drop)]
-pub struct Piece {
+pub struct WrittenPiece {
     bytes: Bytes,
     failed: bool,
 }
@@ -78,7 +78,7 @@ impl Model for SureShelf {
 #[derive(Drop)]
 pub struct Page {
     failing: Vec<Failure>,
-    pieces: Vec<Piece>,
+    pieces: Vec<WrittenPiece>,
 }
 
 impl Model for Page {
@@ -296,7 +296,7 @@ impl Sink for Page {
         match failure_at(&self.failing, self.pieces.len() as u64 + 1) {
             None => {
                 let bytes = Text::from_slice(alloc, piece)?;
-                self.pieces.push(Piece {
+                self.pieces.push(WrittenPiece {
                     bytes,
                     failed: false,
                 })?;
@@ -304,7 +304,7 @@ impl Sink for Page {
             }
             Some(failure) => {
                 let bytes = first_bytes(alloc, piece, failure.kept)?;
-                self.pieces.push(Piece {
+                self.pieces.push(WrittenPiece {
                     bytes,
                     failed: true,
                 })?;

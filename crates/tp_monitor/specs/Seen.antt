@@ -10,8 +10,8 @@ use Rattle.tp_verdict.specs.Read.{wide_tree}
 use Rattle.tp_monitor.specs.declared.wide.Wide.{Wide}
 use Rattle.tp_monitor.specs.declared.widening.Over.{Over}
 use Rattle.tp_monitor.specs.declared.widening.Over.TheVariants.{Next, IfMore, IfEmpty, Always}
-use Rattle.tp_monitor.specs.declared.wide_formula_of.Guard.{Guard}
-use Rattle.tp_monitor.specs.declared.wide_formula_of.Guard.TheVariants.{If, While}
+use Rattle.tp_monitor.specs.declared.wide_formula_of.WideGuard.{WideGuard}
+use Rattle.tp_monitor.specs.declared.wide_formula_of.WideGuard.TheVariants.{If, While}
 use Rattle.tp_monitor.specs.WideOf.{NamedWide}
 
 abbrev pub wide_seen : Wide → NamedWide
@@ -33,6 +33,6 @@ made_over IfEmpty w = if_empty w
 made_over Always w = always w
 
 -- what stands under a condition
-abbrev pub widely_guarded : Guard → ExprTree → WideTree → WideTree
+abbrev pub widely_guarded : WideGuard → ExprTree → WideTree → WideTree
 widely_guarded If = λ b w. branch b w trivial
 widely_guarded While = while

@@ -22,7 +22,7 @@ use tp_verdict::{WideFormula, WideFormulas};
 
 // What stands under a condition is done once, or as long as the condition holds.
 #[derive(Clone, Copy)]
-enum Guard {
+enum WideGuard {
     If,
     While,
 }
@@ -114,13 +114,25 @@ pub fn wide_formula_of(
         }
         PhraseKind::Next(later) => Ok(WideFormula::Next(wide_box(alloc, later, names)?)),
         PhraseKind::Form(form, operands) => wide_form(alloc, operands, phrase, *form, names),
-        PhraseKind::If(condition, body, None) => guarded(alloc, Guard::If, body, condition, names),
+        PhraseKind::If(condition, body, None) => guarded(
+            alloc,
+            WideGuard::If,
+            body,
+            condition,
+            names,
+        ),
         PhraseKind::If(condition, first, Some(second)) => {
             let condition = shared_expression(alloc, condition, names)?;
             let first = wide_box(alloc, first, names)?;
             Ok(WideFormula::If(condition, first, wide_box(alloc, second, names)?))
         }
-        PhraseKind::While(condition, body) => guarded(alloc, Guard::While, body, condition, names),
+        PhraseKind::While(condition, body) => guarded(
+            alloc,
+            WideGuard::While,
+            body,
+            condition,
+            names,
+        ),
         PhraseKind::Repeat(body, condition) => wide_repeat(alloc, body, condition, names),
         PhraseKind::For(_, _, _) | PhraseKind::Forall(_, _, _) | PhraseKind::Exists(_, _) => {
             Err(CheckRefusal::NotExecutable { at: phrase.at })
@@ -165,7 +177,7 @@ fn wides(alloc: Global, phrases: &Phrases, names: &Visible) -> Result<WideFormul
 #[cycle(wide_formula_of)]
 fn guarded(
     alloc: Global,
-    guard: Guard,
+    guard: WideGuard,
     body: &Phrase,
     condition: &Phrase,
     names: &Visible,
@@ -179,8 +191,8 @@ fn guarded(
     let condition = shared_expression(alloc, condition, names)?;
     let body = wide_box(alloc, body, names)?;
     match guard {
-        Guard::If => Ok(WideFormula::If(condition, body, Box::new(alloc, WideFormula::True)?)),
-        Guard::While => Ok(WideFormula::While(condition, body)),
+        WideGuard::If => Ok(WideFormula::If(condition, body, Box::new(alloc, WideFormula::True)?)),
+        WideGuard::While => Ok(WideFormula::While(condition, body)),
     }
 }
 

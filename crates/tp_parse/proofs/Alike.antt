@@ -3,11 +3,11 @@ use Rattle.std.proofs.Common.{◌≡◌, ℕ, zero, suc, ◌+◌, ◌<◌, ◌�
 use Rattle.tp_lex.specs.declared.token.Token.{Token}
 use Rattle.tp_parse.specs.declared.stop.Refusal.{Refusal}
 use Rattle.tp_parse.specs.declared.stop.Refusal.TheVariants.{Unexpected, Unfinished, TooDeep, NoMemory}
-use Rattle.tp_parse.specs.declared.mark.Mark.{Mark}
-use Rattle.tp_parse.specs.declared.mark.Mark.TheVariants as m
+use Rattle.tp_parse.specs.declared.mark.TokenMark.{TokenMark}
+use Rattle.tp_parse.specs.declared.mark.TokenMark.TheVariants as m
 use Rattle.tp_parse.specs.Marks.{same, kind_mark, Tokens, mark, from, first_number, first_name, half_mark, mark_due, past, left_of}
 use Rattle.tp_parse.specs.Readers as readers
-use Rattle.tp_parse.specs.Readers.{ReadOutcome, Reader, and_then, refuse, too_deep, sees, lower, any_name, expect, deepen}
+use Rattle.tp_parse.specs.Readers.{ReadOutcome, TokenReader, and_then, refuse, too_deep, sees, lower, any_name, expect, deepen}
 use Rattle.tp_parse.specs.Reading.{fits}
 use Rattle.tp_parse.proofs.Within.{Within, ok, err}
 
@@ -43,7 +43,7 @@ past_later n ts le (err {e = TooDeep k} is) = omega (arith, is.1)
 past_later n ts le (err {e = Unfinished} is) = tt
 past_later n ts le (err {e = NoMemory} is) = tt
 
-past_then : {A B : Type 0} (n : ℕ) (ts : Tokens) (o : ReadOutcome A) (f : A → Reader B) → Past n ts o → ((x : A) (r : Tokens) → Within r (f x r)) → Past n ts (and_then o f)
+past_then : {A B : Type 0} (n : ℕ) (ts : Tokens) (o : ReadOutcome A) (f : A → TokenReader B) → Past n ts o → ((x : A) (r : Tokens) → Within r (f x r)) → Past n ts (and_then o f)
 past_then n ts (Ok p) f is within = past_later n ts is (within p.0 p.1)
 past_then n ts (Err e) f is within = is
 
@@ -59,7 +59,7 @@ lifted e f (unexpected g) = unexpected (omega arith)
 lifted e f (deep g) = deep (omega arith)
 
 -- one run after another, on both sides
-pub both : {A B : Type 0} {n : ℕ} {ts us : Tokens} {o p : ReadOutcome A} (f g : A → Reader B) → Alike n ts us o p → ((x : A) (r : Tokens) → Within r (f x r))
+pub both : {A B : Type 0} {n : ℕ} {ts us : Tokens} {o p : ReadOutcome A} (f g : A → TokenReader B) → Alike n ts us o p → ((x : A) (r : Tokens) → Within r (f x r))
     → ((x : A) (k : ℕ) (r s : Tokens) → o ≡ Ok (x, r) → length us + length r ≡ length ts + length s → 0 < k → Agrees k r s → Alike k r s (f x r) (g x s))
     → Alike n ts us (and_then o f) (and_then p g)
 both {n = n} {ts = ts} {o = o} f g (beyond is) within next = beyond (past_then n ts o f is within)
@@ -128,7 +128,7 @@ after_take some (ended {n = n}) within next = next (suc n) some ended (omega ari
 after_take some (agreed {n = zero} {t = t} {ts = ts} a) within next = beyond (past_later 1 (t ∷ ts) {r = ts} (omega arith) within)
 after_take some (agreed {n = suc n} {ts = ts} {us = us} a) within next = lifted {r = ts} {s = us} (omega arith) (omega arith) (next (suc n) (omega arith) a (omega arith))
 
-pub expected_alike : (x : Mark) {n : ℕ} {ts us : Tokens} → 0 < n → Agrees n ts us → Alike n ts us (expect x ts) (expect x us)
+pub expected_alike : (x : TokenMark) {n : ℕ} {ts us : Tokens} → 0 < n → Agrees n ts us → Alike n ts us (expect x ts) (expect x us)
 unfolding expect
 expected_alike x {ts = ts} {us = us} some a = chosen_alike (same (mark_due ts) x) (same (mark_due us) x) (ap (λ q. same (half_mark q) x) (same_first some a).mark) (passed_alike some a) (refused_alike some a)
 
@@ -142,7 +142,7 @@ unfolding fits
 fitted_alike zero left some a = deep_alike a
 fitted_alike (suc k) left some a = chosen_alike (leb left (suc k)) (leb left (suc k)) refl (stays_alike some a) (deep_alike a)
 
-pub saw_alike : (x : Mark) {n : ℕ} {ts us : Tokens} → 0 < n → Agrees n ts us → sees x ts ≡ sees x us
+pub saw_alike : (x : TokenMark) {n : ℕ} {ts us : Tokens} → 0 < n → Agrees n ts us → sees x ts ≡ sees x us
 saw_alike x some a = ap (λ q. same q x) (same_first some a).mark
 
 pub took_name_alike : {n : ℕ} {ts us : Tokens} → 0 < n → Agrees n ts us → Alike n ts us (Ok (first_name ts, drop 1 ts)) (Ok (first_name us, drop 1 us))

@@ -6,8 +6,8 @@ use Rattle.tp_tree.specs.declared.operator.Op.{Op}
 use Rattle.tp_tree.specs.declared.operator.Grouping.{Grouping}
 use Rattle.tp_tree.specs.declared.operator.Grouping.TheVariants.{Left, Single, Right}
 use Rattle.tp_tree.specs.Levels.{chop_level, grouping, level_right_of, right_level}
-use Rattle.tp_parse.specs.declared.mark.Mark.{Mark}
-use Rattle.tp_parse.specs.declared.mark.Mark.TheVariants as m
+use Rattle.tp_parse.specs.declared.mark.TokenMark.{TokenMark}
+use Rattle.tp_parse.specs.declared.mark.TokenMark.TheVariants as m
 use Rattle.tp_parse.specs.declared.mark.TokenRole.{TokenRole}
 use Rattle.tp_parse.specs.declared.mark.TokenRole.TheVariants.{Ends, Infix, Opens, Joins}
 use Rattle.tp_parse.specs.declared.head.Listed.{Listed}
@@ -15,7 +15,7 @@ use Rattle.tp_parse.specs.declared.head.Listed.TheVariants as l
 use Rattle.tp_parse.specs.declared.head.PrimaryHead.{PrimaryHead}
 use Rattle.tp_parse.specs.declared.head.PrimaryHead.TheVariants as h
 use Rattle.tp_parse.specs.Marks.{role_at, start_of, listed_close, enclosed_close, middle, Tokens, mark, from, mark_due, past}
-use Rattle.tp_parse.specs.Readers.{Reader}
+use Rattle.tp_parse.specs.Readers.{TokenReader}
 use Rattle.tp_parse.specs.Head.{is_high}
 use Rattle.tp_parse.specs.Grammar.{Found, Operands, operand_then, operands_of, of_infix, of_index, of_chain, BeginsPrimary, number, truth, upper_name, lower_name, call, bare, form, empty_list, list, enclosure, if, while, repeat, for, forall, exists, Parses, atom, listed, enclosed, if_then, if_else, paired, quantified, prefixed, level, Goes, ends, left, single, right, indexed, joins, Others, no_more, one_more, Listing, no_operands, operands}
 use Rattle.tp_parse.specs.Seen.{then_operand}
@@ -35,7 +35,7 @@ mutual
   grows (joins e o) = omega arith
 
 -- where a list or operands may end, no operand begins
-close_due : (x : Listed) (t : Mark) → t ≡ listed_close x → (t ≡ m.Symbol symbol.Greater) ⊎ (t ≡ m.Symbol symbol.CloseRound)
+close_due : (x : Listed) (t : TokenMark) → t ≡ listed_close x → (t ≡ m.Symbol symbol.Greater) ⊎ (t ≡ m.Symbol symbol.CloseRound)
 close_due l.List t e = inl e
 close_due (l.Form f) t e = inr e
 close_due (l.Call x) t e = inr e
@@ -62,8 +62,8 @@ begins_low (for e f g) high = (λ a q. cc, λ a q. cc)
 begins_low (forall e f g) high = (λ a q. cc, λ a q. cc)
 begins_low (exists e d f) high = (λ a q. cc, λ a q. cc)
 
-module _ (inner : ℕ → Reader Found) (room : ℕ) (complete : (k : ℕ) (ts : Tokens) (x : Found) (rest : Tokens) → Parses k ts x rest → x.height ≤ room → inner k ts ≡ Ok (x, rest)) where
-  part_is : {k : ℕ} {ts end : Tokens} {a : Found} (close : Mark) → Parses k ts a end → a.height ≤ room → mark_due end ≡ close → r.part inner room k close ts ≡ Ok (a, past end)
+module _ (inner : ℕ → TokenReader Found) (room : ℕ) (complete : (k : ℕ) (ts : Tokens) (x : Found) (rest : Tokens) → Parses k ts x rest → x.height ≤ room → inner k ts ≡ Ok (x, rest)) where
+  part_is : {k : ℕ} {ts end : Tokens} {a : Found} (close : TokenMark) → Parses k ts a end → a.height ≤ room → mark_due end ≡ close → r.part inner room k close ts ≡ Ok (a, past end)
   unfolding r.part
   part_is {k} {ts} {end} {a} close d low e = rw (complete k ts a end d low, expect_is close end e) refl
 
@@ -80,7 +80,7 @@ module _ (inner : ℕ → Reader Found) (room : ℕ) (complete : (k : ℕ) (ts :
   indexed_is at a i ts end low low2 d f =
       rw (fits_is room a.height ts (omega (arith, tall d)) low, part_is (m.Symbol symbol.CloseSquare) d low2 f) refl
 
-  others_complete : {k : ℕ} {separator : Mark} {more : Operands} {ts rest : Tokens} → separator ≢ m.End → Others k separator ts more rest → (n : ℕ) (all : Operands) → length ts ≤ n → more.height ≤ room
+  others_complete : {k : ℕ} {separator : TokenMark} {more : Operands} {ts rest : Tokens} → separator ≢ m.End → Others k separator ts more rest → (n : ℕ) (all : Operands) → length ts ≤ n → more.height ≤ room
       → r.others_from inner room k separator n all ts ≡ Ok (joined all more, rest)
   unfolding r.others_from
   others_complete {ts = ts} some (no_more e) zero all few low = ap (λ q. fine (q, ts)) (sym (joined_none all))

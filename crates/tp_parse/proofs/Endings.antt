@@ -11,15 +11,15 @@ use Rattle.tp_tree.specs.declared.operator.Grouping.TheVariants.{Left, Single, R
 use Rattle.tp_tree.specs.Levels.{chop_level, grouping, level_right_of, right_level}
 use Rattle.tp_parse.specs.declared.stop.Refusal.{Refusal}
 use Rattle.tp_parse.specs.declared.stop.Refusal.TheVariants.{Unfinished, TooDeep}
-use Rattle.tp_parse.specs.declared.mark.Mark.{Mark}
-use Rattle.tp_parse.specs.declared.mark.Mark.TheVariants as m
+use Rattle.tp_parse.specs.declared.mark.TokenMark.{TokenMark}
+use Rattle.tp_parse.specs.declared.mark.TokenMark.TheVariants as m
 use Rattle.tp_parse.specs.declared.mark.TokenRole.{TokenRole}
 use Rattle.tp_parse.specs.declared.mark.TokenRole.TheVariants.{Ends, Infix, Opens, Joins}
 use Rattle.tp_parse.specs.declared.head.PrimaryHead.{PrimaryHead}
 use Rattle.tp_parse.specs.declared.head.Listed.{Listed}
 use Rattle.tp_parse.specs.Marks.{kind_mark, role_of, role_at, level_of, start_of, listed_level, listed_close, Tokens, mark, mark_due, past}
 use Rattle.tp_parse.specs.Readers as readers
-use Rattle.tp_parse.specs.Readers.{ReadOutcome, Reader, and_then, ◌>>=◌, pure, sees, expect, deepen}
+use Rattle.tp_parse.specs.Readers.{ReadOutcome, TokenReader, and_then, ◌>>=◌, pure, sees, expect, deepen}
 use Rattle.tp_parse.specs.Head.{is_high, begins, unfit}
 use Rattle.tp_parse.specs.Grammar.{Found, Operands, operand_then, of_infix, of_index, BeginsPrimary, Parses, Goes, Others, Listing}
 use Rattle.tp_parse.specs.Reading as r
@@ -39,13 +39,13 @@ pub record FoundEnding (room k : ℕ) (ts : Tokens) (e : Refusal) : Type 0 where
   pub roomy : e ≡ Unfinished → 0 < length ts → 0 < room
 
 -- and with a mark that is due after it
-abbrev pub PartEnding : ℕ → ℕ → Mark → Tokens → Refusal → Type 0
+abbrev pub PartEnding : ℕ → ℕ → TokenMark → Tokens → Refusal → Type 0
 PartEnding room k close ts e =
     (next : Tokens → Tokens)
     × ((ys : Tokens) → (x : Found) × (end : Tokens) × Parses k (ts ++ next ys) x end × (mark_due end ≡ close) × (past end ≡ ys) × (e ≡ Unfinished → x.height ≤ room))
 
 -- operands that go on with those that the next tokens are
-abbrev pub OthersEnding : ℕ → ℕ → Mark → Tokens → Refusal → Type 0
+abbrev pub OthersEnding : ℕ → ℕ → TokenMark → Tokens → Refusal → Type 0
 OthersEnding room k separator ts e =
     (next : Tokens → Tokens)
     × ((ys rest : Tokens) (more : Operands) → Stops ys → Others k separator ys more rest
@@ -64,7 +64,7 @@ abbrev pub GoesEnding : ℕ → ℕ → ℕ → Found → Tokens → Refusal →
 GoesEnding room k at left ts e =
     (next : Tokens → Tokens) × ((ys : Tokens) → Stops ys → (x : Found) × Goes k at left (ts ++ next ys) x ys × (e ≡ Unfinished → left.height ≤ suc room → x.height ≤ suc room)) × (0 < length ts)
 
-pub others_join : {k : ℕ} {separator : Mark} {all more : Operands} {ts rest ws end : Tokens} → Others k separator ts all rest → rest ≡ [] → separator ≢ m.End → Stops ws → Others k separator ws more end
+pub others_join : {k : ℕ} {separator : TokenMark} {all more : Operands} {ts rest ws end : Tokens} → Others k separator ts all rest → rest ≡ [] → separator ≢ m.End → Stops ws → Others k separator ws more end
     → (both : Operands) × Others k separator (ts ++ ws) both end × (both.height ≡ max all.height more.height)
 others_join {k} {separator} {more = more} {ws = ws} {end = end} (g.no_more e) none real stops o = (more, subst (λ us. Others k separator (us ++ ws) more end) (sym none) o, omega arith)
 others_join {separator = separator} {ts = ts} {ws = ws} (g.one_more {x = x} {mid = mid} e d o) none real stops last =
@@ -84,7 +84,7 @@ joins_symbol : (x : Symbol) → role_of (m.Symbol x) ≡ Joins → ⊥
 joins_symbol symbol.Stop e = absurd cc
 joins_symbol _ e = absurd cc
 
-joins_of : (x : Mark) → role_of x ≡ Joins → x ≡ m.Word word.And
+joins_of : (x : TokenMark) → role_of x ≡ Joins → x ≡ m.Word word.And
 joins_of (m.Word w) e = ap m.Word (joins_word w e)
 joins_of (m.Symbol x) e = absurd (joins_symbol x e)
 joins_of m.End e = absurd cc
@@ -92,7 +92,7 @@ joins_of m.Upper e = absurd cc
 joins_of m.Lower e = absurd cc
 joins_of m.Number e = absurd cc
 
-pub joins_mark : (k : ℕ) (x : Mark) → role_at k x ≡ Joins → x ≡ m.Word word.And
+pub joins_mark : (k : ℕ) (x : TokenMark) → role_at k x ≡ Joins → x ≡ m.Word word.And
 unfolding role_at
 joins_mark k x e = elim (eqb (level_of (role_of x)) k) as (λ b. cond b (role_of x) Ends ≡ Joins → x ≡ m.Word word.And) [ true ↦ λ q. joins_of x q | false ↦ λ q. absurd cc ] e
 
@@ -178,9 +178,9 @@ unfit_finish k ts e is end =
 
 -- ---- what was read, over more tokens
 
-module _ (inner : ℕ → Reader Found) (room : ℕ) (sound : (k : ℕ) (ts : Tokens) (p : Found × Tokens) → inner k ts ≡ Ok p → Is room k ts p) where
+module _ (inner : ℕ → TokenReader Found) (room : ℕ) (sound : (k : ℕ) (ts : Tokens) (p : Found × Tokens) → inner k ts ≡ Ok p → Is room k ts p) where
   -- a part that was read
-  pub part_ok : (k : ℕ) (close : Mark) (ts : Tokens) (q : Found × Tokens) → r.part inner room k close ts ≡ Ok q → (p : Found × Tokens) × Is room k ts p × (mark_due p.1 ≡ close) × (q ≡ (p.0, past p.1))
+  pub part_ok : (k : ℕ) (close : TokenMark) (ts : Tokens) (q : Found × Tokens) → r.part inner room k close ts ≡ Ok q → (p : Found × Tokens) × Is room k ts p × (mark_due p.1 ≡ close) × (q ≡ (p.0, past p.1))
   unfolding r.part
   part_ok k close ts q e =
       let b = bind_ok (inner k ts) _ q e in

@@ -4,13 +4,13 @@ use Rattle.std.proofs.lemmas.List.{append-nil}
 use Rattle.tp_lex.specs.declared.token.Word.TheVariants as word
 use Rattle.tp_lex.specs.declared.token.Symbol.TheVariants as symbol
 use Rattle.tp_tree.specs.Tree.{PhraseTree, DefinitionTree, SourceTree}
-use Rattle.tp_parse.specs.declared.mark.Mark.TheVariants as m
+use Rattle.tp_parse.specs.declared.mark.TokenMark.TheVariants as m
 use Rattle.tp_parse.specs.declared.stop.Refusal.{Refusal}
 use Rattle.tp_parse.specs.declared.stop.Refusal.TheVariants.{Unexpected, Unfinished, TooDeep, NoMemory}
 use Rattle.tp_parse.specs.declared.refusal.ParseRefusal.{ParseRefusal}
 use Rattle.tp_tree.specs.Levels.{chop_level}
 use Rattle.tp_parse.specs.Marks.{Tokens, mark, from, past, first_name}
-use Rattle.tp_parse.specs.Readers.{ReadOutcome, Reader, and_then, sees, names}
+use Rattle.tp_parse.specs.Readers.{ReadOutcome, TokenReader, and_then, sees, names}
 use Rattle.tp_parse.specs.Grammar.{Found, limit, defined, source_of, ReadsNames, last_name, name_then, Parameters, no_parameters, parameters, Sentence, sentence, Defines, defines, Definitions, no_definition, definition_then, IsSource, source, Accepts}
 use Rattle.tp_parse.specs.Reading.{read}
 use Rattle.tp_parse.specs.Source as s
@@ -25,7 +25,7 @@ use Rattle.tp_parse.proofs.Within.{Names as Leaves, Within, refusal_within, sour
 abbrev LowSentence : Tokens → Found → Tokens → Type 0
 LowSentence ts x rest = Sentence ts x rest × (x.height ≤ limit)
 
-sentence_then : {B : Type 0} (ts : Tokens) (f : PhraseTree → Reader B) (y : B × Tokens) → and_then (s.sentence ts) f ≡ Ok y
+sentence_then : {B : Type 0} (ts : Tokens) (f : PhraseTree → TokenReader B) (y : B × Tokens) → and_then (s.sentence ts) f ≡ Ok y
     → (x : Found) × (rest : Tokens) × LowSentence ts x rest × (f x.tree rest ≡ Ok y)
 unfolding s.sentence
 sentence_then ts f y e =
@@ -66,7 +66,7 @@ parameters_is {ts} (parameters {mid = mid} d e) =
 abbrev pub LowDefines : Tokens → DefinitionTree → ℕ → Tokens → Type 0
 LowDefines ts d h rest = Defines ts d h rest × (h ≤ limit)
 
-pub definition_then_is : {B : Type 0} (ts : Tokens) (f : DefinitionTree → Reader B) (y : B × Tokens) → mark ts ≡ m.Word word.Define → and_then (s.definition ts) f ≡ Ok y
+pub definition_then_is : {B : Type 0} (ts : Tokens) (f : DefinitionTree → TokenReader B) (y : B × Tokens) → mark ts ≡ m.Word word.Define → and_then (s.definition ts) f ≡ Ok y
     → (d : DefinitionTree) × (h : ℕ) × (rest : Tokens) × LowDefines ts d h rest × (f d rest ≡ Ok y)
 unfolding s.definition
 definition_then_is ts f y begins e =

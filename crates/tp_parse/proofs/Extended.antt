@@ -2,8 +2,8 @@
 use Rattle.std.proofs.Common.{◌≡◌, ◌≢◌, ℕ, suc, ◌<◌, ◌≤◌, true, false, cond, eqb, inl, inr, List, [], ◌∷◌, ◌++◌, length, drop, refl, sym, ap, subst, ◌∙◌, arith}
 use Rattle.tp_lex.specs.declared.token.Word.TheVariants as word
 use Rattle.tp_tree.specs.Tree.{DefinitionTree}
-use Rattle.tp_parse.specs.declared.mark.Mark.{Mark}
-use Rattle.tp_parse.specs.declared.mark.Mark.TheVariants as m
+use Rattle.tp_parse.specs.declared.mark.TokenMark.{TokenMark}
+use Rattle.tp_parse.specs.declared.mark.TokenMark.TheVariants as m
 use Rattle.tp_parse.specs.declared.mark.TokenRole.{TokenRole}
 use Rattle.tp_parse.specs.declared.mark.TokenRole.TheVariants.{Ends}
 use Rattle.tp_parse.specs.declared.head.Atom.{Atom}
@@ -36,12 +36,12 @@ followed le is = record { stops = λ none. is.stops (omega arith) }
 pub something : {rest ys : Tokens} → 0 < length rest → Follows rest ys
 something some = record { stops = λ none. absurd (omega arith) }
 
-pub role_stopped : (k : ℕ) (x : Mark) → role_of x ≡ Ends → role_at k x ≡ Ends
+pub role_stopped : (k : ℕ) (x : TokenMark) → role_of x ≡ Ends → role_at k x ≡ Ends
 unfolding role_at
 role_stopped k x e = elim (eqb (level_of (role_of x)) k) as (λ b. cond b (role_of x) Ends ≡ Ends) [ true ↦ e | false ↦ refl ]
 
 -- what stops a phrase joins nothing to it
-pub joined_not : (x : Mark) → role_of x ≡ Ends → x ≢ m.Word word.And
+pub joined_not : (x : TokenMark) → role_of x ≡ Ends → x ≢ m.Word word.And
 joined_not x e q = let is : role_of (m.Word word.And) ≡ Ends = ap role_of (sym q) ∙ e in cc
 
 -- ---- tokens
@@ -67,17 +67,17 @@ past_on (t ∷ ts) ws some =
     let x = input.mark (t ∷ ts) in
     elim (same (half_mark x) x) as (λ b. cond b (ts ++ ws) (left_of true (t ∷ ts ++ ws)) ≡ cond b ts (left_of true (t ∷ ts)) ++ ws) [ true ↦ refl | false ↦ refl ]
 
-pub some_mark : (ts : Tokens) (x : Mark) → mark ts ≡ x → x ≢ m.End → 0 < length ts
+pub some_mark : (ts : Tokens) (x : TokenMark) → mark ts ≡ x → x ≢ m.End → 0 < length ts
 unfolding mark
 some_mark [] x e real = absurd (real (sym e))
 some_mark (t ∷ ts) x e real = omega arith
 
-pub some_due : (ts : Tokens) (x : Mark) → mark_due ts ≡ x → x ≢ m.End → 0 < length ts
+pub some_due : (ts : Tokens) (x : TokenMark) → mark_due ts ≡ x → x ≢ m.End → 0 < length ts
 unfolding mark
 some_due [] x e real = absurd (real (sym e))
 some_due (t ∷ ts) x e real = omega arith
 
-pub due_on : (ts ws : Tokens) (x : Mark) → mark_due ts ≡ x → x ≢ m.End → mark_due (ts ++ ws) ≡ x
+pub due_on : (ts ws : Tokens) (x : TokenMark) → mark_due ts ≡ x → x ≢ m.End → mark_due (ts ++ ws) ≡ x
 due_on ts ws x e real = ap half_mark (mark_on ts ws (some_due ts x e real)) ∙ e
 
 pub some_phrase : {k : ℕ} {ts rest : Tokens} {x : Found} → Parses k ts x rest → 0 < length ts
@@ -137,7 +137,7 @@ head_on {ts = t ∷ ts} ws (exists {mid = mid} e d f) stops =
 
 -- ---- phrases
 
-mark_other : (rest ws : Tokens) (x : Mark) → mark rest ≢ x → (length rest ≤ 0 → mark ws ≢ x) → mark (rest ++ ws) ≢ x
+mark_other : (rest ws : Tokens) (x : TokenMark) → mark rest ≢ x → (length rest ≤ 0 → mark ws ≢ x) → mark (rest ++ ws) ≢ x
 unfolding mark
 mark_other [] ws x other next = next (omega arith)
 mark_other (t ∷ rest) ws x other next = other
@@ -224,14 +224,14 @@ mutual
   goes_with {k = k} {ts = ts} ws (joins e o) stops =
       joins (role_more ts ws k _ e (some_role k ts e (λ q. cc))) (others_on ws o (λ q. cc) stops (λ none. joined_not (mark ws) (stops.stops none).0))
 
-  pub others_on : {k : ℕ} {separator : Mark} {all : Operands} {ts rest : Tokens} (ws : Tokens) → Others k separator ts all rest → separator ≢ m.End → Follows rest ws
+  pub others_on : {k : ℕ} {separator : TokenMark} {all : Operands} {ts rest : Tokens} (ws : Tokens) → Others k separator ts all rest → separator ≢ m.End → Follows rest ws
       → (length rest ≤ 0 → mark ws ≢ separator) → Others k separator (ts ++ ws) all (rest ++ ws)
   others_on {separator = separator} {ts = ts} ws (no_more e) real stops other = no_more (mark_other ts ws separator e other)
   others_on {separator = separator} {ts = ts} ws (one_more e d o) real stops other =
       let some = some_mark ts separator e real in
       one_more (mark_on ts ws some ∙ e) (drop_phrase ts ws some (phrase_on ws d (followed (others_shorter o) stops))) (others_on ws o real stops other)
 
-  pub listing_on : {k : ℕ} {close : Mark} {all : Operands} {ts rest : Tokens} (ws : Tokens) → Listing k close ts all rest → close ≢ m.End → Listing k close (ts ++ ws) all (rest ++ ws)
+  pub listing_on : {k : ℕ} {close : TokenMark} {all : Operands} {ts rest : Tokens} (ws : Tokens) → Listing k close ts all rest → close ≢ m.End → Listing k close (ts ++ ws) all (rest ++ ws)
   listing_on {ts = ts} ws (no_operands e) real = rw (sym (past_on ts ws (some_due ts _ e real))) (no_operands (due_on ts ws _ e real))
   listing_on {ts = ts} ws (operands {end = end} d o e) real =
       let some = some_due end _ e real in

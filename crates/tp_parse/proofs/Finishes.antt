@@ -6,8 +6,8 @@ use Rattle.tp_lex.specs.declared.token.Token.{Token}
 use Rattle.tp_lex.specs.declared.token.Symbol.TheVariants as symbol
 use Rattle.tp_parse.specs.declared.stop.Refusal.{Refusal}
 use Rattle.tp_parse.specs.declared.stop.Refusal.TheVariants.{Unexpected, Unfinished, TooDeep, NoMemory}
-use Rattle.tp_parse.specs.declared.mark.Mark.{Mark}
-use Rattle.tp_parse.specs.declared.mark.Mark.TheVariants as m
+use Rattle.tp_parse.specs.declared.mark.TokenMark.{TokenMark}
+use Rattle.tp_parse.specs.declared.mark.TokenMark.TheVariants as m
 use Rattle.tp_parse.specs.declared.mark.Start.{Start}
 use Rattle.tp_parse.specs.declared.mark.Start.TheVariants as s
 use Rattle.tp_parse.specs.declared.head.Atom.TheVariants as a
@@ -19,7 +19,7 @@ use Rattle.tp_parse.specs.declared.head.Pair.TheVariants as p
 use Rattle.tp_tree.specs.declared.operator.Form.{Form}
 use Rattle.tp_parse.specs.Marks.{same, start_of, comma, Tokens, mark, first_name, mark_due, past}
 use Rattle.tp_parse.specs.Readers as readers
-use Rattle.tp_parse.specs.Readers.{ReadOutcome, Reader, and_then, ◌>>=◌, pure, sees, lower, any_name, names, names_from, expect, deepen}
+use Rattle.tp_parse.specs.Readers.{ReadOutcome, TokenReader, and_then, ◌>>=◌, pure, sees, lower, any_name, names, names_from, expect, deepen}
 use Rattle.tp_parse.specs.Head.{name_or_call, counter, head_by, is_high, admit, begins}
 use Rattle.tp_parse.specs.Reading.{fits}
 use Rattle.tp_parse.specs.Grammar as g
@@ -42,7 +42,7 @@ failed e = Err e
 pub failed_is : {A : Type 0} (d e : Refusal) → failed {A = A} d ≡ Err e → d ≡ e
 failed_is d e is = cc
 
-pub bind_err : {A B : Type 0} (o : ReadOutcome A) (f : A → Reader B) (e : Refusal) → and_then o f ≡ Err e
+pub bind_err : {A B : Type 0} (o : ReadOutcome A) (f : A → TokenReader B) (e : Refusal) → and_then o f ≡ Err e
     → (o ≡ Err e) ⊎ ((q : A × Tokens) × (o ≡ Ok q) × (f q.0 q.1 ≡ Err e))
 bind_err (Ok q) f e is = inr (q, refl, is)
 bind_err (Err d) f e is = let same : d ≡ e = cc in inl (ap failed same)
@@ -55,7 +55,7 @@ refusal_ends (t ∷ ts) end = absurd end
 pub refused_end : {A : Type 0} (ts : Tokens) (e : Refusal) → failed {A = A} (readers.refusal ts) ≡ Err e → Ended e → ts ≡ []
 refused_end ts e is end = refusal_ends ts (subst Ended (sym (failed_is _ e is)) end)
 
-pub expect_err : (x : Mark) (ts : Tokens) (e : Refusal) → expect x ts ≡ Err e → Ended e → ts ≡ []
+pub expect_err : (x : TokenMark) (ts : Tokens) (e : Refusal) → expect x ts ≡ Err e → Ended e → ts ≡ []
 unfolding expect
 expect_err x ts e is end = elim (chosen (same (mark_due ts) x) _ _ _ is) [ inl w ↦ absurd cc | inr w ↦ refused_end ts e w.1 end ]
 

@@ -6,8 +6,8 @@ use Rattle.tp_tree.specs.declared.operator.Op.{Op}
 use Rattle.tp_tree.specs.Levels.{chop_level, right_level}
 use Rattle.tp_parse.specs.declared.stop.Refusal.{Refusal}
 use Rattle.tp_parse.specs.declared.stop.Refusal.TheVariants.{Unfinished}
-use Rattle.tp_parse.specs.declared.mark.Mark.{Mark}
-use Rattle.tp_parse.specs.declared.mark.Mark.TheVariants as m
+use Rattle.tp_parse.specs.declared.mark.TokenMark.{TokenMark}
+use Rattle.tp_parse.specs.declared.mark.TokenMark.TheVariants as m
 use Rattle.tp_parse.specs.declared.mark.TokenRole.{TokenRole}
 use Rattle.tp_parse.specs.declared.mark.TokenRole.TheVariants.{Ends, Infix, Opens, Joins}
 use Rattle.tp_parse.specs.declared.mark.Start.TheVariants as s
@@ -16,7 +16,7 @@ use Rattle.tp_parse.specs.declared.head.PrimaryHead.TheVariants as h
 use Rattle.tp_parse.specs.declared.head.Listed.{Listed}
 use Rattle.tp_parse.specs.declared.head.Pair.{Pair}
 use Rattle.tp_parse.specs.Marks.{same, kind_mark, prefix_at, role_at, start_of, comma, listed_level, listed_close, enclosed_level, enclosed_close, middle, Tokens, mark, from, mark_due, past}
-use Rattle.tp_parse.specs.Readers.{Reader, and_then, pure, sees, expect, deepen}
+use Rattle.tp_parse.specs.Readers.{TokenReader, and_then, pure, sees, expect, deepen}
 use Rattle.tp_parse.specs.Head.{head_by, is_high, admit}
 use Rattle.tp_parse.specs.Grammar.{Found, Operands, no_operand, operand_then, operands_of, of_operands, of_enclosed, of_choice, of_choice_else, of_pair, of_exists, of_prefix, of_infix, of_index, of_chain, BeginsPrimary, Parses, Goes, Others, Listing}
 use Rattle.tp_parse.specs.Seen.{then_operand}
@@ -33,9 +33,9 @@ use Rattle.tp_parse.proofs.Fresh.{name_token, name_found, a_name, mark_is, Closi
 use Rattle.tp_parse.proofs.Finishes.{Ended, bind_err, expect_err, deep_last, deepen_err, deepen_room, fits_err, fits_room, admit_err, admit_room, head_finish, some_start}
 use Rattle.tp_parse.proofs.Endings.{FoundEnding, PartEnding, OthersEnding, ListEnding, PhraseEnding, GoesEnding, others_join, closed, joins_mark, after_last, infix_last, index_last, roomed, unfit_finish, part_ok, turn_steps}
 
-module _ (inner : ℕ → Reader Found) (room : ℕ) (sound : (k : ℕ) (ts : Tokens) (p : Found × Tokens) → inner k ts ≡ Ok p → Is room k ts p)
+module _ (inner : ℕ → TokenReader Found) (room : ℕ) (sound : (k : ℕ) (ts : Tokens) (p : Found × Tokens) → inner k ts ≡ Ok p → Is room k ts p)
     (finish : (k : ℕ) (ts : Tokens) (e : Refusal) → inner k ts ≡ Err e → Ended e → FoundEnding room k ts e) where
-  part_finish : (k : ℕ) (close : Mark) (c : Closing close) (ts : Tokens) (e : Refusal) → r.part inner room k close ts ≡ Err e → Ended e → (e ≡ Unfinished → 0 < room) → PartEnding room k close ts e
+  part_finish : (k : ℕ) (close : TokenMark) (c : Closing close) (ts : Tokens) (e : Refusal) → r.part inner room k close ts ≡ Err e → Ended e → (e ≡ Unfinished → 0 < room) → PartEnding room k close ts e
   unfolding r.part
   part_finish k close c ts e is end some =
       elim (bind_err (inner k ts) _ e is) [
@@ -61,7 +61,7 @@ module _ (inner : ℕ → Reader Found) (room : ℕ) (sound : (k : ℕ) (ts : To
             ]
       ]
 
-  others_finish : (k : ℕ) (separator : Mark) (n : ℕ) (all : Operands) (ts : Tokens) (e : Refusal) → separator ≢ m.End → 0 < room
+  others_finish : (k : ℕ) (separator : TokenMark) (n : ℕ) (all : Operands) (ts : Tokens) (e : Refusal) → separator ≢ m.End → 0 < room
       → r.others_from inner room k separator n all ts ≡ Err e → Ended e → OthersEnding room k separator ts e
   unfolding r.others_from
   others_finish k separator zero all ts e real low is end = absurd cc

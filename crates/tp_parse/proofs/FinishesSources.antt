@@ -7,10 +7,10 @@ use Rattle.tp_tree.specs.Levels.{chop_level}
 use Rattle.tp_tree.specs.Tree.{DefinitionTree, SourceTree}
 use Rattle.tp_parse.specs.declared.stop.Refusal.{Refusal}
 use Rattle.tp_parse.specs.declared.stop.Refusal.TheVariants.{Unfinished}
-use Rattle.tp_parse.specs.declared.mark.Mark.{Mark}
-use Rattle.tp_parse.specs.declared.mark.Mark.TheVariants as m
+use Rattle.tp_parse.specs.declared.mark.TokenMark.{TokenMark}
+use Rattle.tp_parse.specs.declared.mark.TokenMark.TheVariants as m
 use Rattle.tp_parse.specs.Marks.{same, comma, Tokens, mark, from, first_name, mark_due, past}
-use Rattle.tp_parse.specs.Readers.{Reader, and_then, sees, lower, names, expect}
+use Rattle.tp_parse.specs.Readers.{TokenReader, and_then, sees, lower, names, expect}
 use Rattle.tp_parse.specs.Grammar.{Found, limit, Parses, Parameters, Sentence, Defines, Definitions, IsSource}
 use Rattle.tp_parse.specs.Reading.{read}
 use Rattle.tp_parse.specs.Source as s
@@ -26,17 +26,17 @@ use Rattle.tp_parse.proofs.FinishesPhrases.{read_finish}
 
 -- ---- steps
 
-gate_err : {A B : Type 0} (b : Bool) (x : A × Tokens) (d : Refusal) (f : A → Reader B) (e : Refusal) → and_then (cond b (Ok x) (Err d)) f ≡ Err e
+gate_err : {A B : Type 0} (b : Bool) (x : A × Tokens) (d : Refusal) (f : A → TokenReader B) (e : Refusal) → and_then (cond b (Ok x) (Err d)) f ≡ Err e
     → (failed {A = B} d ≡ Err e) ⊎ ((b ≡ true) × (f x.0 x.1 ≡ Err e))
 gate_err true x d f e is = inr (refl, is)
 gate_err false x d f e is = inl is
 
-expect_then_err : {B : Type 0} (x : Mark) (ts : Tokens) (f : Unit {0} → Reader B) (e : Refusal) → and_then (expect x ts) f ≡ Err e → Ended e
+expect_then_err : {B : Type 0} (x : TokenMark) (ts : Tokens) (f : Unit {0} → TokenReader B) (e : Refusal) → and_then (expect x ts) f ≡ Err e → Ended e
     → (ts ≡ []) ⊎ ((mark_due ts ≡ x) × (f tt (past ts) ≡ Err e))
 unfolding expect
 expect_then_err x ts f e is end = elim (gate_err (same (mark_due ts) x) (tt, past ts) _ f e is) [ inl w ↦ inl (refused_end ts e w end) | inr w ↦ inr (same_is _ _ w.0, w.1) ]
 
-lower_then_err : {B : Type 0} (ts : Tokens) (f : List ℕ → Reader B) (e : Refusal) → and_then (lower ts) f ≡ Err e → Ended e
+lower_then_err : {B : Type 0} (ts : Tokens) (f : List ℕ → TokenReader B) (e : Refusal) → and_then (lower ts) f ≡ Err e → Ended e
     → (ts ≡ []) ⊎ ((mark ts ≡ m.Lower) × (f (first_name ts) (drop 1 ts) ≡ Err e))
 unfolding lower
 lower_then_err ts f e is end = elim (gate_err (sees m.Lower ts) (first_name ts, drop 1 ts) _ f e is) [ inl w ↦ inl (refused_end ts e w end) | inr w ↦ inr (same_is _ _ w.0, w.1) ]

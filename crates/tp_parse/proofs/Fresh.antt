@@ -9,8 +9,8 @@ use Rattle.tp_lex.specs.declared.token.Word.TheVariants as word
 use Rattle.tp_lex.specs.declared.token.Symbol.{Symbol}
 use Rattle.tp_lex.specs.declared.token.Symbol.TheVariants as symbol
 use Rattle.tp_tree.specs.Levels.{chop_level}
-use Rattle.tp_parse.specs.declared.mark.Mark.{Mark}
-use Rattle.tp_parse.specs.declared.mark.Mark.TheVariants as m
+use Rattle.tp_parse.specs.declared.mark.TokenMark.{TokenMark}
+use Rattle.tp_parse.specs.declared.mark.TokenMark.TheVariants as m
 use Rattle.tp_parse.specs.declared.mark.Prefix.{Prefix}
 use Rattle.tp_parse.specs.declared.mark.Prefix.TheVariants.{Not, Minus, Next}
 use Rattle.tp_parse.specs.declared.mark.TokenRole.TheVariants.{Ends}
@@ -72,7 +72,7 @@ unfolding mark
 mark_is t ys = refl
 
 -- a token by which an operand ends
-pub record Closing (x : Mark) : Type 0 where
+pub record Closing (x : TokenMark) : Type 0 where
   pub close : Token
   pub is : kind_mark close.kind ≡ x
   pub whole : Whole close
@@ -80,13 +80,13 @@ pub record Closing (x : Mark) : Type 0 where
   pub other : kind_mark close.kind ≢ m.Word word.Else
   pub plain : kind_mark close.kind ≢ open_round
 
-pub due_close : {x : Mark} (c : Closing x) (ys : Tokens) → mark_due (c.close ∷ ys) ≡ x
+pub due_close : {x : TokenMark} (c : Closing x) (ys : Tokens) → mark_due (c.close ∷ ys) ≡ x
 due_close c ys = due_whole c.close ys c.whole ∙ c.is
 
-pub past_close : {x : Mark} (c : Closing x) (ys : Tokens) → past (c.close ∷ ys) ≡ ys
+pub past_close : {x : TokenMark} (c : Closing x) (ys : Tokens) → past (c.close ∷ ys) ≡ ys
 past_close c ys = past_whole c.close ys c.whole
 
-pub stops_close : {x : Mark} (c : Closing x) (ys : Tokens) → Stops (c.close ∷ ys)
+pub stops_close : {x : TokenMark} (c : Closing x) (ys : Tokens) → Stops (c.close ∷ ys)
 stops_close c ys = stops_at c.close ys c.ends c.other c.plain
 
 pub word_plain : (w : Word) → m.Word w ≢ open_round
@@ -132,7 +132,7 @@ raised_by {j} {ts} {ys} {x} (suc n) d stops =
 pub raised : {j k : ℕ} {ts ys : Tokens} {x : Found} → Parses j ts x ys → Stops ys → j ≤ k → Parses k ts x ys
 raised {j} {k} {ts} {ys} {x} d stops le = let same : (k - j) + j ≡ k = omega arith in subst (λ i. Parses i ts x ys) same (raised_by (k - j) d stops)
 
-pub past_then : {k : ℕ} {ys rest : Tokens} {x : Found} {y : Mark} (c : Closing y) → Parses k ys x rest → Parses k (past (c.close ∷ ys)) x rest
+pub past_then : {k : ℕ} {ys rest : Tokens} {x : Found} {y : TokenMark} (c : Closing y) → Parses k ys x rest → Parses k (past (c.close ∷ ys)) x rest
 past_then {k} {ys} {rest} {x} c d = subst (λ q. Parses k q x rest) (sym (past_close c ys)) d
 
 -- ---- lists

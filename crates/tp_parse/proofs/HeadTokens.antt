@@ -4,8 +4,8 @@ use Rattle.tp_lex.specs.declared.token.Word.{Word}
 use Rattle.tp_lex.specs.declared.token.Word.TheVariants as word
 use Rattle.tp_lex.specs.declared.token.Symbol.{Symbol}
 use Rattle.tp_lex.specs.declared.token.Symbol.TheVariants as symbol
-use Rattle.tp_parse.specs.declared.mark.Mark.{Mark}
-use Rattle.tp_parse.specs.declared.mark.Mark.TheVariants as m
+use Rattle.tp_parse.specs.declared.mark.TokenMark.{TokenMark}
+use Rattle.tp_parse.specs.declared.mark.TokenMark.TheVariants as m
 use Rattle.tp_parse.specs.declared.mark.Start.{Start}
 use Rattle.tp_parse.specs.declared.mark.Start.TheVariants as s
 use Rattle.tp_parse.specs.declared.head.PrimaryHead.{PrimaryHead}
@@ -14,7 +14,7 @@ use Rattle.tp_parse.specs.Grammar as g
 use Rattle.tp_parse.specs.Grammar.{ReadsNames, BeginsPrimary}
 
 -- the mark of the token that starts so, where that is a name or a number
-abbrev pub mark_of_start : Start → Option Mark
+abbrev pub mark_of_start : Start → Option TokenMark
 mark_of_start s.Name = Some m.Upper
 mark_of_start s.NameOrCall = Some m.Lower
 mark_of_start s.Number = Some m.Number
@@ -28,7 +28,7 @@ symbol_starts_none : (x : Symbol) → mark_of_start (start_of (m.Symbol x)) ≡ 
 symbol_starts_none symbol.Bar = refl
 symbol_starts_none _ = refl
 
-pub started : (x y : Mark) → mark_of_start (start_of x) ≡ Some y → x ≡ y
+pub started : (x y : TokenMark) → mark_of_start (start_of x) ≡ Some y → x ≡ y
 started m.Upper y e = cc
 started m.Lower y e = cc
 started m.Number y e = cc

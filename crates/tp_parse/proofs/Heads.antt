@@ -3,21 +3,21 @@ use Rattle.std.proofs.Common.{◌≡◌, ℕ, zero, suc, ◌<◌, ◌≤◌, Boo
 use Rattle.std.proofs.lemmas.Bool.{leb-true, le-leb}
 use Rattle.tp_lex.specs.declared.token.Symbol.TheVariants as symbol
 use Rattle.tp_parse.specs.declared.stop.Refusal.{Refusal}
-use Rattle.tp_parse.specs.declared.mark.Mark.{Mark}
-use Rattle.tp_parse.specs.declared.mark.Mark.TheVariants as m
+use Rattle.tp_parse.specs.declared.mark.TokenMark.{TokenMark}
+use Rattle.tp_parse.specs.declared.mark.TokenMark.TheVariants as m
 use Rattle.tp_parse.specs.declared.mark.Start.{Start}
 use Rattle.tp_parse.specs.declared.mark.Start.TheVariants as s
 use Rattle.tp_parse.specs.declared.head.PrimaryHead.{PrimaryHead}
 use Rattle.tp_parse.specs.Marks.{same, start_of, comma, Tokens, mark, mark_due, past, first_name}
 use Rattle.tp_parse.specs.Readers as readers
-use Rattle.tp_parse.specs.Readers.{ReadOutcome, Reader, and_then, ◌>>=◌, pure, sees, taken_name, lower, any_name, names, names_from, expect, deepen}
+use Rattle.tp_parse.specs.Readers.{ReadOutcome, TokenReader, and_then, ◌>>=◌, pure, sees, taken_name, lower, any_name, names, names_from, expect, deepen}
 use Rattle.tp_parse.specs.Head.{name_or_call, counter, head_by, is_high, admit}
 use Rattle.tp_parse.specs.Reading.{fits}
 use Rattle.tp_parse.specs.Grammar.{ReadsNames, last_name, name_then, BeginsPrimary, number, truth, upper_name, lower_name, call, bare, form, empty_list, list, enclosure, if, while, repeat, for, forall, exists}
 use Rattle.tp_parse.proofs.Marks.{same_is, same_not, same_yes, same_no}
 use Rattle.tp_parse.proofs.Shapes.{taken, dropped}
 
-pub bind_ok : {A B : Type 0} (r : ReadOutcome A) (f : A → Reader B) (y : B × Tokens) → and_then r f ≡ Ok y → (q : A × Tokens) × (r ≡ Ok q) × (f q.0 q.1 ≡ Ok y)
+pub bind_ok : {A B : Type 0} (r : ReadOutcome A) (f : A → TokenReader B) (y : B × Tokens) → and_then r f ≡ Ok y → (q : A × Tokens) × (r ≡ Ok q) × (f q.0 q.1 ≡ Ok y)
 bind_ok (Ok q) f y e = (q, refl, e)
 bind_ok (Err d) f y e = absurd cc
 
@@ -36,7 +36,7 @@ chosen_at true f g x z e = inl (refl, e)
 chosen_at false f g x z e = inr (refl, e)
 
 -- where a test fails, the refusal is the answer
-gate : {A B : Type 0} (b : Bool) (x : A × Tokens) (d : Refusal) (f : A → Reader B) (y : B × Tokens) → and_then (cond b (Ok x) (Err d)) f ≡ Ok y → (b ≡ true) × (f x.0 x.1 ≡ Ok y)
+gate : {A B : Type 0} (b : Bool) (x : A × Tokens) (d : Refusal) (f : A → TokenReader B) (y : B × Tokens) → and_then (cond b (Ok x) (Err d)) f ≡ Ok y → (b ≡ true) × (f x.0 x.1 ≡ Ok y)
 gate true x d f y e = (refl, e)
 gate false x d f y e = absurd cc
 
@@ -44,15 +44,15 @@ passes : {A : Type 0} (b : Bool) (x : A × Tokens) (d : Refusal) (y : A × Token
 passes true x d y e = (refl, cc)
 passes false x d y e = absurd cc
 
-pub expect_then : {B : Type 0} (x : Mark) (ts : Tokens) (f : Unit {0} → Reader B) (y : B × Tokens) → and_then (expect x ts) f ≡ Ok y → (mark_due ts ≡ x) × (f tt (past ts) ≡ Ok y)
+pub expect_then : {B : Type 0} (x : TokenMark) (ts : Tokens) (f : Unit {0} → TokenReader B) (y : B × Tokens) → and_then (expect x ts) f ≡ Ok y → (mark_due ts ≡ x) × (f tt (past ts) ≡ Ok y)
 unfolding expect
 expect_then x ts f y e = let g = gate (same (mark_due ts) x) (tt, past ts) _ f y e in (same_is _ _ g.0, g.1)
 
-pub expect_is : (x : Mark) (ts : Tokens) → mark_due ts ≡ x → expect x ts ≡ Ok (tt, past ts)
+pub expect_is : (x : TokenMark) (ts : Tokens) → mark_due ts ≡ x → expect x ts ≡ Ok (tt, past ts)
 unfolding expect
 expect_is x ts e = rw (same_yes (mark_due ts) x e) refl
 
-pub deepen_then : {B : Type 0} (room : ℕ) (ts : Tokens) (f : Unit {0} → Reader B) (y : B × Tokens) → and_then (deepen room ts) f ≡ Ok y → f tt ts ≡ Ok y
+pub deepen_then : {B : Type 0} (room : ℕ) (ts : Tokens) (f : Unit {0} → TokenReader B) (y : B × Tokens) → and_then (deepen room ts) f ≡ Ok y → f tt ts ≡ Ok y
 unfolding deepen
 deepen_then zero ts f y e = absurd cc
 deepen_then (suc n) ts f y e = e
@@ -62,7 +62,7 @@ unfolding deepen
 deepen_is zero ts some = absurd (omega arith)
 deepen_is (suc n) ts some = refl
 
-pub fits_then : {B : Type 0} (room left : ℕ) (ts : Tokens) (f : Unit {0} → Reader B) (y : B × Tokens) → and_then (fits room left ts) f ≡ Ok y → (left ≤ room) × (f tt ts ≡ Ok y)
+pub fits_then : {B : Type 0} (room left : ℕ) (ts : Tokens) (f : Unit {0} → TokenReader B) (y : B × Tokens) → and_then (fits room left ts) f ≡ Ok y → (left ≤ room) × (f tt ts ≡ Ok y)
 unfolding fits
 fits_then zero left ts f y e = absurd cc
 fits_then (suc n) left ts f y e = let g = gate (leb left (suc n)) (tt, ts) _ f y e in (leb-true _ _ g.0, g.1)
@@ -72,7 +72,7 @@ unfolding fits
 fits_is zero left ts some low = absurd (omega arith)
 fits_is (suc n) left ts some low = rw (le-leb left (suc n) low) refl
 
-pub admit_then : {B : Type 0} (room : ℕ) (x : Start) (ts : Tokens) (f : Unit {0} → Reader B) (y : B × Tokens) → and_then (admit room x ts) f ≡ Ok y → f tt ts ≡ Ok y
+pub admit_then : {B : Type 0} (room : ℕ) (x : Start) (ts : Tokens) (f : Unit {0} → TokenReader B) (y : B × Tokens) → and_then (admit room x ts) f ≡ Ok y → f tt ts ≡ Ok y
 unfolding admit
 admit_then room x ts f y e = elim (is_high x) as (λ b. and_then (cond b (deepen room) (pure tt) ts) f ≡ Ok y → f tt ts ≡ Ok y) [ true ↦ λ q. deepen_then room ts f y q | false ↦ λ q. q ] e
 
@@ -89,7 +89,7 @@ or_is : (b c : Bool) → (b || c) ≡ true → (b ≡ true) ⊎ (c ≡ true)
 or_is true c e = inl refl
 or_is false c e = inr e
 
-pub any_name_then : {B : Type 0} (ts : Tokens) (f : List ℕ → Reader B) (y : B × Tokens) → and_then (any_name ts) f ≡ Ok y → IsName ts × (f (first_name ts) (drop 1 ts) ≡ Ok y)
+pub any_name_then : {B : Type 0} (ts : Tokens) (f : List ℕ → TokenReader B) (y : B × Tokens) → and_then (any_name ts) f ≡ Ok y → IsName ts × (f (first_name ts) (drop 1 ts) ≡ Ok y)
 unfolding any_name
 any_name_then ts f y e =
     let g = gate (sees m.Upper ts || sees m.Lower ts) (first_name ts, drop 1 ts) _ f y e in
@@ -103,7 +103,7 @@ any_name_is ts (inr e) = elim (sees m.Upper ts) as (λ b. cond (b || sees m.Lowe
   | false ↦ rw (same_yes (mark ts) m.Lower e) refl
 ]
 
-pub lower_then : {B : Type 0} (ts : Tokens) (f : List ℕ → Reader B) (y : B × Tokens) → and_then (lower ts) f ≡ Ok y → (mark ts ≡ m.Lower) × (f (first_name ts) (drop 1 ts) ≡ Ok y)
+pub lower_then : {B : Type 0} (ts : Tokens) (f : List ℕ → TokenReader B) (y : B × Tokens) → and_then (lower ts) f ≡ Ok y → (mark ts ≡ m.Lower) × (f (first_name ts) (drop 1 ts) ≡ Ok y)
 unfolding lower
 lower_then ts f y e = let g = gate (sees m.Lower ts) (first_name ts, drop 1 ts) _ f y e in (same_is _ _ g.0, g.1)
 
@@ -164,7 +164,7 @@ names_complete {ts} (name_then n e d) = rw (any_name_is ts n) (names_from_comple
 moved : {ts : Tokens} (x y : PrimaryHead × Tokens) → fine x ≡ fine y → BeginsPrimary ts x.0 x.1 → BeginsPrimary ts y.0 y.1
 moved {ts} x y e is = subst (λ (q : PrimaryHead × Tokens). BeginsPrimary ts q.0 q.1) (ok_is x y e) is
 
-counter_then : {B : Type 0} (ts : Tokens) (f : List ℕ → Reader B) (y : B × Tokens) → and_then (counter ts) f ≡ Ok y
+counter_then : {B : Type 0} (ts : Tokens) (f : List ℕ → TokenReader B) (y : B × Tokens) → and_then (counter ts) f ≡ Ok y
     → (mark (drop 1 ts) ≡ m.Lower) × (mark_due (drop 1 (drop 1 ts)) ≡ m.Symbol symbol.Less) × (f (first_name (drop 1 ts)) (past (drop 1 (drop 1 ts))) ≡ Ok y)
 unfolding counter
 counter_then ts f y e =

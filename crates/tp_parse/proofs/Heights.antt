@@ -2,7 +2,7 @@
 use Rattle.std.proofs.Common.{ℕ, ◌+◌, ◌≤◌, max, List, arith}
 use Rattle.tp_tree.specs.Tree.{PhraseTree, phrases_of, DefinitionTree, SourceTree}
 use Rattle.tp_tree.specs.Height.{height, under, greatest, highest, source_height}
-use Rattle.tp_parse.specs.declared.mark.Mark.{Mark}
+use Rattle.tp_parse.specs.declared.mark.TokenMark.{TokenMark}
 use Rattle.tp_parse.specs.declared.mark.Prefix.{Prefix}
 use Rattle.tp_parse.specs.declared.mark.Prefix.TheVariants as prefix
 use Rattle.tp_parse.specs.declared.mark.Enclosure.{Enclosure}
@@ -65,11 +65,11 @@ mutual
   goes_low low (g.indexed e d f h) = goes_low (omega (arith, phrase_low d)) h
   goes_low low (g.joins e o) = omega (arith, others_low o)
 
-  others_low : {k : ℕ} {separator : Mark} {all : Operands} {ts rest : Tokens} → Others k separator ts all rest → greatest (phrases_of all.trees) ≤ all.height
+  others_low : {k : ℕ} {separator : TokenMark} {all : Operands} {ts rest : Tokens} → Others k separator ts all rest → greatest (phrases_of all.trees) ≤ all.height
   others_low (g.no_more e) = omega arith
   others_low (g.one_more e d o) = omega (arith, phrase_low d, others_low o)
 
-  listing_low : {k : ℕ} {close : Mark} {all : Operands} {ts rest : Tokens} → Listing k close ts all rest → greatest (phrases_of all.trees) ≤ all.height
+  listing_low : {k : ℕ} {close : TokenMark} {all : Operands} {ts rest : Tokens} → Listing k close ts all rest → greatest (phrases_of all.trees) ≤ all.height
   listing_low (g.no_operands e) = omega arith
   listing_low (g.operands d o e) = omega (arith, phrase_low d, others_low o)
 

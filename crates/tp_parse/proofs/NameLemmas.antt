@@ -6,8 +6,8 @@ use Rattle.tp_lex.specs.declared.token.Kind.TheVariants as kind
 use Rattle.tp_lex.specs.Names.{own_names, token_names}
 use Rattle.tp_tree.specs.Tree.{PhraseTree, PhraseTrees, phrases_of, DefinitionTree, SourceTree}
 use Rattle.tp_tree.specs.Names.{phrase_names, kind_names, operand_names, definition_names, names_in_definitions, source_names}
-use Rattle.tp_parse.specs.declared.mark.Mark.{Mark}
-use Rattle.tp_parse.specs.declared.mark.Mark.TheVariants as m
+use Rattle.tp_parse.specs.declared.mark.TokenMark.{TokenMark}
+use Rattle.tp_parse.specs.declared.mark.TokenMark.TheVariants as m
 use Rattle.tp_parse.specs.declared.mark.Prefix.{Prefix}
 use Rattle.tp_parse.specs.declared.mark.Prefix.TheVariants as prefix
 use Rattle.tp_parse.specs.declared.mark.Enclosure.{Enclosure}
@@ -26,7 +26,7 @@ use Rattle.tp_parse.specs.Names.{NamesAreTokens}
 use Rattle.tp_parse.proofs.HeadTokens.{mark_of_start, started, head_left}
 
 -- where an operand is due, a name begins with the mark of one
-starts_name : (x : Mark) → (start_of x ≡ s.Name) ⊎ (start_of x ≡ s.NameOrCall) → (x ≡ m.Upper) ⊎ (x ≡ m.Lower)
+starts_name : (x : TokenMark) → (start_of x ≡ s.Name) ⊎ (start_of x ≡ s.NameOrCall) → (x ≡ m.Upper) ⊎ (x ≡ m.Lower)
 starts_name x (inl e) = inl (started x m.Upper (ap mark_of_start e))
 starts_name x (inr e) = inr (started x m.Lower (ap mark_of_start e))
 
@@ -216,14 +216,14 @@ module _ (P : List ℕ → Type 0) where
         let others = others_held o are in
         (join (phrase_names a.tree) (operand_names (phrases_of all.trees)) held others.0, others.1)
 
-    others_held : {k : ℕ} {separator : Mark} {all : Operands} {ts rest : Tokens} → Others k separator ts all rest → Named ts → All P (operand_names (phrases_of all.trees)) × Named rest
+    others_held : {k : ℕ} {separator : TokenMark} {all : Operands} {ts rest : Tokens} → Others k separator ts all rest → Named ts → All P (operand_names (phrases_of all.trees)) × Named rest
     others_held (g.no_more e) are = (none, are)
     others_held {ts = ts} (g.one_more {x = x} {all = all} e d o) are =
         let first = phrase_held d (dropped ts are) in
         let others = others_held o first.1 in
         (join (phrase_names x.tree) (operand_names (phrases_of all.trees)) first.0 others.0, others.1)
 
-    listing_held : {k : ℕ} {close : Mark} {all : Operands} {ts rest : Tokens} → Listing k close ts all rest → Named ts → All P (operand_names (phrases_of all.trees)) × Named rest
+    listing_held : {k : ℕ} {close : TokenMark} {all : Operands} {ts rest : Tokens} → Listing k close ts all rest → Named ts → All P (operand_names (phrases_of all.trees)) × Named rest
     listing_held {ts = ts} (g.no_operands e) are = (none, passed ts are)
     listing_held (g.operands {x = x} {all = all} {end = end} d o e) are =
         let first = phrase_held d are in

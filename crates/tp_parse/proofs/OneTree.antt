@@ -2,7 +2,7 @@
 use Rattle.std.proofs.Common.{◌≡◌, ◌≢◌, ◌⊎◌, inl, inr, ℕ, max, List, ◌∷◌, drop, refl, sym, ap, ap₂, subst, ◌∙◌, arith}
 use Rattle.tp_lex.specs.declared.token.Word.TheVariants as word
 use Rattle.tp_tree.specs.Tree.{DefinitionTree, SourceTree}
-use Rattle.tp_parse.specs.declared.mark.Mark.TheVariants as m
+use Rattle.tp_parse.specs.declared.mark.TokenMark.TheVariants as m
 use Rattle.tp_parse.specs.Marks.{Tokens, mark, from, first_name, past}
 use Rattle.tp_parse.specs.Grammar.{Found, defined, source_of, ReadsNames, Parses, Parameters, Sentence, Defines, Definitions, IsSource}
 use Rattle.tp_parse.specs.Grammar as g

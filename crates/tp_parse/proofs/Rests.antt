@@ -5,8 +5,8 @@ use Rattle.tp_lex.specs.declared.token.Symbol.TheVariants as symbol
 use Rattle.tp_tree.specs.declared.operator.Op.{Op}
 use Rattle.tp_tree.specs.Levels.{chop_level, right_level}
 use Rattle.tp_tree.specs.Tree.{DefinitionTree, SourceTree}
-use Rattle.tp_parse.specs.declared.mark.Mark.{Mark}
-use Rattle.tp_parse.specs.declared.mark.Mark.TheVariants as m
+use Rattle.tp_parse.specs.declared.mark.TokenMark.{TokenMark}
+use Rattle.tp_parse.specs.declared.mark.TokenMark.TheVariants as m
 use Rattle.tp_parse.specs.declared.mark.Prefix.{Prefix}
 use Rattle.tp_parse.specs.declared.mark.TokenRole.{TokenRole}
 use Rattle.tp_parse.specs.declared.mark.TokenRole.TheVariants.{Ends, Infix, Opens, Joins}
@@ -18,7 +18,7 @@ use Rattle.tp_parse.specs.declared.head.Atom.TheVariants as atom
 use Rattle.tp_parse.specs.declared.head.Listed.TheVariants as listed
 use Rattle.tp_parse.specs.Marks.{same, kind_mark, prefix_at, role_at, start_of, comma, listed_level, listed_close, enclosed_level, enclosed_close, middle, Tokens, mark, from, first_number, first_name, mark_due, half_mark}
 use Rattle.tp_parse.specs.Readers as readers
-use Rattle.tp_parse.specs.Readers.{ReadOutcome, Reader, and_then, ◌>>=◌, pure, sees, lower, any_name, names, names_from, expect, deepen}
+use Rattle.tp_parse.specs.Readers.{ReadOutcome, TokenReader, and_then, ◌>>=◌, pure, sees, lower, any_name, names, names_from, expect, deepen}
 use Rattle.tp_parse.specs.Head.{name_or_call, counter, head_by, is_high, admit, begins, unfit}
 use Rattle.tp_parse.specs.Grammar.{Found, Operands, operands_of, of_choice, of_choice_else, of_infix, of_index, of_chain, of_pair, of_prefix, limit, defined, source_of, Accepts}
 use Rattle.tp_parse.specs.Seen.{then_operand}
@@ -126,19 +126,19 @@ unfit_alike {A} k some (agreed {n = n} {t = t} {ts = ts} {us = us} a) =
       | false ↦ unexpected (omega arith)
     ]
 
-module _ (inner : ℕ → Reader Found) (room : ℕ) (within : (k : ℕ) (ts : Tokens) → Within ts (inner k ts)) (sound : (k : ℕ) (ts : Tokens) (p : Found × Tokens) → inner k ts ≡ Ok p → Is room k ts p)
+module _ (inner : ℕ → TokenReader Found) (room : ℕ) (within : (k : ℕ) (ts : Tokens) → Within ts (inner k ts)) (sound : (k : ℕ) (ts : Tokens) (p : Found × Tokens) → inner k ts ≡ Ok p → Is room k ts p)
     (alike : (k n : ℕ) (ts us : Tokens) → 0 < n → Agrees n ts us → Alike n ts us (inner k ts) (inner k us)) where
-  parted : (k : ℕ) (close : Mark) {n : ℕ} {ts us : Tokens} → 0 < n → Agrees n ts us → Alike n ts us (r.part inner room k close ts) (r.part inner room k close us)
+  parted : (k : ℕ) (close : TokenMark) {n : ℕ} {ts us : Tokens} → 0 < n → Agrees n ts us → Alike n ts us (r.part inner room k close ts) (r.part inner room k close us)
   unfolding r.part
   parted k close some a = both _ _ (alike k _ _ _ some a) (λ x vs. w.bind _ (w.expected close vs) (λ u ws. w.stays {x = x} ws)) (λ x l r q eq lens pos b.
       both _ _ (expected_alike close pos b) (λ u ws. w.stays {x = x} ws) (λ u l2 r2 q2 eq2 lens2 pos2 b2. stays_alike {x = x} pos2 b2))
 
-  others_end : (k : ℕ) (separator : Mark) (i : ℕ) (all : Operands) → separator ≢ m.End → r.others_from inner room k separator i all [] ≡ Ok (all, [])
+  others_end : (k : ℕ) (separator : TokenMark) (i : ℕ) (all : Operands) → separator ≢ m.End → r.others_from inner room k separator i all [] ≡ Ok (all, [])
   unfolding r.others_from mark
   others_end k separator zero all some = refl
   others_end k separator (suc i) all some = rw (same_no m.End separator (λ q. some (sym q))) refl
 
-  othered : (k : ℕ) (separator : Mark) (i j : ℕ) (all : Operands) {n : ℕ} {ts us : Tokens} → separator ≢ m.End → 0 < n → Agrees n ts us → length ts ≤ i → length us ≤ j
+  othered : (k : ℕ) (separator : TokenMark) (i j : ℕ) (all : Operands) {n : ℕ} {ts us : Tokens} → separator ≢ m.End → 0 < n → Agrees n ts us → length ts ≤ i → length us ≤ j
       → Alike n ts us (r.others_from inner room k separator i all ts) (r.others_from inner room k separator j all us)
   unfolding r.others_from
   othered k separator i j all real some unseen few few2 = absurd (omega arith)
@@ -152,7 +152,7 @@ module _ (inner : ℕ → Reader Found) (room : ℕ) (within : (k : ℕ) (ts : T
       let le = short (inner k (drop 1 ts)) (within k (drop 1 ts)) eq in othered k separator i j (then_operand all x) real pos2 b2 (omega arith) (omega arith))))
       (stays_alike some (agreed a))
 
-  operanded : (k : ℕ) (close : Mark) {n : ℕ} {ts us : Tokens} → 0 < n → Agrees n ts us → Alike n ts us (r.operands inner room k close ts) (r.operands inner room k close us)
+  operanded : (k : ℕ) (close : TokenMark) {n : ℕ} {ts us : Tokens} → 0 < n → Agrees n ts us → Alike n ts us (r.operands inner room k close ts) (r.operands inner room k close us)
   unfolding r.operands r.others
   operanded k close {ts = ts} {us = us} some a =
       chosen_alike (same (mark_due ts) close) (same (mark_due us) close) (ap (λ q. same (half_mark q) close) (same_first some a).mark) (passed_alike some a)
@@ -184,7 +184,7 @@ module _ (inner : ℕ → Reader Found) (room : ℕ) (within : (k : ℕ) (ts : T
   primary_by_alike at (h.Exists xs) some a = both _ _ (alike chop_level _ _ _ some a) (λ x vs. w.stays vs) (λ x l r q eq lens pos b. stays_alike pos b)
 
   -- a primary that begins so
-  abbrev begun : ℕ → Start → Reader Found
+  abbrev begun : ℕ → Start → TokenReader Found
   begun at x = λ ts. and_then (admit room x ts) (λ u us. and_then (head_by x us) (λ head vs. r.primary_by inner room at head vs))
 
   begun_alike : (at : ℕ) (x : Start) {n : ℕ} {ts us : Tokens} → 0 < n → Agrees n ts us → Alike n ts us (begun at x ts) (begun at x us)
@@ -196,7 +196,7 @@ module _ (inner : ℕ → Reader Found) (room : ℕ) (within : (k : ℕ) (ts : T
   unfolding r.primary
   primary_alike {n} {ts} {us} some a =
       subst (λ (q : ℕ). Alike n ts us (begun (from ts) (start_of (mark ts)) ts) (begun q (start_of (mark us)) us)) (same_first some a).from
-      (subst (λ (q : Mark). Alike n ts us (begun (from ts) (start_of (mark ts)) ts) (begun (from ts) (start_of q) us)) (same_first some a).mark (begun_alike (from ts) (start_of (mark ts)) some a))
+      (subst (λ (q : TokenMark). Alike n ts us (begun (from ts) (start_of (mark ts)) ts) (begun (from ts) (start_of q) us)) (same_first some a).mark (begun_alike (from ts) (start_of (mark ts)) some a))
 
   operated_alike : (o : Op) (at : ℕ) (left : Found) {n : ℕ} {ts us : Tokens} → 0 < n → Agrees n ts us
       → Alike n ts us (r.operated inner room o at left ts) (r.operated inner room o at left us)
@@ -229,7 +229,7 @@ module _ (inner : ℕ → Reader Found) (room : ℕ) (within : (k : ℕ) (ts : T
   turn_alike : (k at : ℕ) (left : Found) {n : ℕ} {ts us : Tokens} → 0 < n → Agrees n ts us → Alike n ts us (r.turn inner room k at left ts) (r.turn inner room k at left us)
   unfolding r.turn
   turn_alike k at left {n} {ts} {us} some a =
-      subst (λ (q : Mark). Alike n ts us (r.turn_by inner room k at left (role_at k (mark ts)) ts) (r.turn_by inner room k at left (role_at k q) us)) (same_first some a).mark (turn_by_alike k at left (role_at k (mark ts)) some a)
+      subst (λ (q : TokenMark). Alike n ts us (r.turn_by inner room k at left (role_at k (mark ts)) ts) (r.turn_by inner room k at left (role_at k q) us)) (same_first some a).mark (turn_by_alike k at left (role_at k (mark ts)) some a)
 
   go_end : (k at i : ℕ) (left : Found) → r.go inner room k at i left [] ≡ Ok (left, [])
   unfolding r.go r.turn mark
@@ -250,7 +250,7 @@ module _ (inner : ℕ → Reader Found) (room : ℕ) (within : (k : ℕ) (ts : T
       ] (turn_fewer inner room sound k at left ts (x, v) eq))
 
   -- an operator before its operand, at a place
-  abbrev before_at : ℕ → Prefix → ℕ → Reader Found
+  abbrev before_at : ℕ → Prefix → ℕ → TokenReader Found
   before_at at x i = λ vs. and_then (deepen room vs) (λ u ws. and_then (inner i (drop 1 ws)) (λ y zs. Ok (of_prefix at x y, zs)))
 
   before_alike : (at : ℕ) (x : Prefix) (i : ℕ) {n : ℕ} {ts us : Tokens} → 0 < n → Agrees n ts us → Alike n ts us (before_at at x i ts) (before_at at x i us)
@@ -269,7 +269,7 @@ module _ (inner : ℕ → Reader Found) (room : ℕ) (within : (k : ℕ) (ts : T
   levels_alike zero some a = primary_alike some a
   levels_alike (suc k) {n} {ts} {us} some a =
       let lower = r.levels inner room k in
-      subst (λ (q : Mark). Alike n ts us (r.level_by inner room (suc k) lower (prefix_at (suc k) (mark ts)) ts) (r.level_by inner room (suc k) lower (prefix_at (suc k) q) us)) (same_first some a).mark
+      subst (λ (q : TokenMark). Alike n ts us (r.level_by inner room (suc k) lower (prefix_at (suc k) (mark ts)) ts) (r.level_by inner room (suc k) lower (prefix_at (suc k) q) us)) (same_first some a).mark
       (elim (prefix_at (suc k) (mark ts)) as (λ p. Alike n ts us (r.level_by inner room (suc k) lower p ts) (r.level_by inner room (suc k) lower p us)) [
         | Some o ↦ prefixed_alike (suc k) o some a
         | None ↦ both _ _ (levels_alike k some a) (λ x vs. w.go_within inner room within (suc k) (from ts) (length vs) x vs) (λ x l v z eq lens pos b.
@@ -295,20 +295,20 @@ parameters_alike {ts = ts} {us = us} some a =
     (both _ _ (named some a) (λ xs vs. w.bind _ (w.expected (m.Symbol symbol.CloseRound) vs) (λ u zs. w.stays {x = xs} zs)) (λ xs l r q eq lens pos b.
     both _ _ (expected_alike (m.Symbol symbol.CloseRound) pos b) (λ u zs. w.stays {x = xs} zs) (λ u l2 r2 q2 eq2 lens2 pos2 b2. stays_alike {x = xs} pos2 b2)))
 
-abbrev body_at : ℕ → List ℕ → List (List ℕ) → Reader DefinitionTree
+abbrev body_at : ℕ → List ℕ → List (List ℕ) → TokenReader DefinitionTree
 body_at at x xs = λ ts. and_then (source.sentence ts) (λ b bs. Ok (defined x at xs b, bs))
 
-abbrev equal_at : ℕ → List ℕ → List (List ℕ) → Reader DefinitionTree
+abbrev equal_at : ℕ → List ℕ → List (List ℕ) → TokenReader DefinitionTree
 equal_at at x xs = λ ts. and_then (expect (m.Symbol symbol.Equal) ts) (λ u us. body_at at x xs us)
 
-abbrev parameters_at : ℕ → List ℕ → Reader DefinitionTree
+abbrev parameters_at : ℕ → List ℕ → TokenReader DefinitionTree
 parameters_at at x = λ ts. and_then (source.parameters ts) (λ xs us. equal_at at x xs us)
 
-abbrev open_at : ℕ → List ℕ → Reader DefinitionTree
+abbrev open_at : ℕ → List ℕ → TokenReader DefinitionTree
 open_at at x = λ ts. and_then (expect (m.Symbol symbol.OpenRound) ts) (λ u us. parameters_at at x us)
 
 -- what follows the word `define`
-abbrev name_at : ℕ → Reader DefinitionTree
+abbrev name_at : ℕ → TokenReader DefinitionTree
 name_at at = λ ts. and_then (lower ts) (λ x us. open_at at x us)
 
 body_within : (at : ℕ) (x : List ℕ) (xs : List (List ℕ)) (ts : Tokens) → Within ts (body_at at x xs ts)

@@ -8,8 +8,8 @@ use Rattle.tp_tree.specs.declared.operator.Op.{Op}
 use Rattle.tp_tree.specs.Levels.{chop_level, right_level}
 use Rattle.tp_tree.specs.Tree.{DefinitionTree, SourceTree}
 use Rattle.tp_parse.specs.declared.stop.Refusal.TheVariants.{TooDeep}
-use Rattle.tp_parse.specs.declared.mark.Mark.{Mark}
-use Rattle.tp_parse.specs.declared.mark.Mark.TheVariants as m
+use Rattle.tp_parse.specs.declared.mark.TokenMark.{TokenMark}
+use Rattle.tp_parse.specs.declared.mark.TokenMark.TheVariants as m
 use Rattle.tp_parse.specs.declared.mark.TokenRole.{TokenRole}
 use Rattle.tp_parse.specs.declared.mark.TokenRole.TheVariants.{Ends, Infix, Opens, Joins}
 use Rattle.tp_parse.specs.declared.mark.Start.{Start}
@@ -18,7 +18,7 @@ use Rattle.tp_parse.specs.declared.head.PrimaryHead.{PrimaryHead}
 use Rattle.tp_parse.specs.declared.head.PrimaryHead.TheVariants as h
 use Rattle.tp_parse.specs.Marks.{before, prefix_at, role_at, start_of, comma, listed_level, listed_close, enclosed_level, enclosed_close, middle, same as is_mark, Tokens, mark, from, mark_due}
 use Rattle.tp_parse.specs.Readers as readers
-use Rattle.tp_parse.specs.Readers.{ReadOutcome, Reader, and_then, ◌>>=◌, pure, refuse, sees, expect, deepen}
+use Rattle.tp_parse.specs.Readers.{ReadOutcome, TokenReader, and_then, ◌>>=◌, pure, refuse, sees, expect, deepen}
 use Rattle.tp_parse.specs.Head.{is_high, is_nothing, admit, begins, unfit}
 use Rattle.tp_parse.specs.Grammar.{Found, Operands, operands_of, limit, source_of, Sentence, Defines, Definitions, IsSource}
 use Rattle.tp_parse.specs.Seen.{then_operand}
@@ -36,7 +36,7 @@ pub data Roomier {A : Type 0} : ReadOutcome A → ReadOutcome A → Type 0 where
   same : {o : ReadOutcome A} → Roomier o o
   deep : {n : ℕ} {p : ReadOutcome A} → Roomier (Err (TooDeep n)) p
 
-both : {A B : Type 0} {o p : ReadOutcome A} (f q : A → Reader B) → Roomier o p → ((x : A) (us : Tokens) → Roomier (f x us) (q x us)) → Roomier (and_then o f) (and_then p q)
+both : {A B : Type 0} {o p : ReadOutcome A} (f q : A → TokenReader B) → Roomier o p → ((x : A) (us : Tokens) → Roomier (f x us) (q x us)) → Roomier (and_then o f) (and_then p q)
 both f q (same {o = Ok z}) next = next z.0 z.1
 both f q (same {o = Err e}) next = same
 both f q deep next = deep
@@ -72,10 +72,10 @@ nothing_is s.Nothing e = refl
 nothing_is _ e = absurd cc
 
 -- no phrase of a level begins so
-abbrev BeginsNot : ℕ → Mark → Type 0
+abbrev BeginsNot : ℕ → TokenMark → Type 0
 BeginsNot k x = (start_of x ≡ s.Nothing) × ((0 < before x) → k < before x)
 
-begins_not : (k : ℕ) (x : Mark) → begins k x ≡ false → BeginsNot k x
+begins_not : (k : ℕ) (x : TokenMark) → begins k x ≡ false → BeginsNot k x
 unfolding begins
 begins_not k x e =
     elim (eqb (before x) 0) as (λ b. eqb (before x) 0 ≡ b → cond b (not (is_nothing (start_of x))) (leb (before x) k) ≡ false → BeginsNot k x) [
@@ -97,7 +97,7 @@ begins_not k x e =
     above : leb (before x) k ≡ false → k < before x
     above e2 = omega (arith, leb-false (before x) k e2)
 
-module _ (inner : ℕ → Reader Found) (room : ℕ) where
+module _ (inner : ℕ → TokenReader Found) (room : ℕ) where
   none_begins : (k : ℕ) (ts : Tokens) → BeginsNot k (mark ts) → r.levels inner room k ts ≡ Err (readers.refusal ts)
   unfolding r.levels r.level r.primary admit
   none_begins zero ts not = rw not.0 refl
@@ -106,17 +106,17 @@ module _ (inner : ℕ → Reader Found) (room : ℕ) where
 
 -- ---- phrases
 
-module _ (inner wider : ℕ → Reader Found) (low high : ℕ) (le : low ≤ high) (roomier : (k : ℕ) (ts : Tokens) → Roomier (inner k ts) (wider k ts)) where
-  parted : (k : ℕ) (close : Mark) (ts : Tokens) → Roomier (r.part inner low k close ts) (r.part wider high k close ts)
+module _ (inner wider : ℕ → TokenReader Found) (low high : ℕ) (le : low ≤ high) (roomier : (k : ℕ) (ts : Tokens) → Roomier (inner k ts) (wider k ts)) where
+  parted : (k : ℕ) (close : TokenMark) (ts : Tokens) → Roomier (r.part inner low k close ts) (r.part wider high k close ts)
   unfolding r.part
   parted k close ts = both _ _ (roomier k ts) (λ x us. same)
 
-  othered : (k : ℕ) (separator : Mark) (n : ℕ) (all : Operands) (ts : Tokens) → Roomier (r.others_from inner low k separator n all ts) (r.others_from wider high k separator n all ts)
+  othered : (k : ℕ) (separator : TokenMark) (n : ℕ) (all : Operands) (ts : Tokens) → Roomier (r.others_from inner low k separator n all ts) (r.others_from wider high k separator n all ts)
   unfolding r.others_from
   othered k separator zero all ts = same
   othered k separator (suc n) all ts = chosen (sees separator ts) (both _ _ (roomier k (drop 1 ts)) (λ x us. othered k separator n (then_operand all x) us)) same
 
-  operanded : (k : ℕ) (close : Mark) (ts : Tokens) → Roomier (r.operands inner low k close ts) (r.operands wider high k close ts)
+  operanded : (k : ℕ) (close : TokenMark) (ts : Tokens) → Roomier (r.operands inner low k close ts) (r.operands wider high k close ts)
   unfolding r.operands r.others
   operanded k close ts = chosen (is_mark (mark_due ts) close) same (both _ _ (roomier k ts) (λ x us. both _ _ (othered k comma (length us) (operands_of (x.tree ∷ []) x.height) us) (λ all vs. same)))
 
@@ -193,7 +193,7 @@ read_roomier (suc low) (suc high) k ts le = levels_roomier (r.read low) (r.read 
 
 -- ---- sources
 
-after_ok : {A B : Type 0} {o : ReadOutcome A} {x : A} {us : Tokens} {p : ReadOutcome B} (f : A → Reader B) → Roomier o (Ok (x, us)) → Roomier (f x us) p → Roomier (and_then o f) p
+after_ok : {A B : Type 0} {o : ReadOutcome A} {x : A} {us : Tokens} {p : ReadOutcome B} (f : A → TokenReader B) → Roomier o (Ok (x, us)) → Roomier (f x us) p → Roomier (and_then o f) p
 after_ok f same next = next
 after_ok f deep next = deep
 

@@ -4,8 +4,8 @@ use Rattle.tp_lex.specs.declared.token.Token.{Token}
 use Rattle.tp_lex.specs.declared.token.Kind.{Kind}
 use Rattle.tp_lex.specs.declared.token.Kind.TheVariants as kind
 use Rattle.tp_tree.specs.Tree.{PhraseTree, DefinitionTree, SourceTree}
-use Rattle.tp_parse.specs.declared.mark.Mark.{Mark}
-use Rattle.tp_parse.specs.declared.mark.Mark.TheVariants as m
+use Rattle.tp_parse.specs.declared.mark.TokenMark.{TokenMark}
+use Rattle.tp_parse.specs.declared.mark.TokenMark.TheVariants as m
 use Rattle.tp_parse.specs.declared.mark.Enclosure.{Enclosure}
 use Rattle.tp_parse.specs.declared.head.Atom.{Atom}
 use Rattle.tp_parse.specs.declared.head.Listed.{Listed}
@@ -38,7 +38,7 @@ due l = ap half_mark (on l)
 begun : {ts us : Tokens} → SameMarks ts us → start us ≡ start ts
 begun l = ap start_of (on l)
 
-other : {ts us : Tokens} {x : Mark} → SameMarks ts us → mark ts ≢ x → mark us ≢ x
+other : {ts us : Tokens} {x : TokenMark} → SameMarks ts us → mark ts ≢ x → mark us ≢ x
 other l n q = n (sym (on l) ∙ q)
 
 later : {ts us : Tokens} → SameMarks ts us → SameMarks (drop 1 ts) (drop 1 us)
@@ -160,7 +160,7 @@ mutual
       (_, _, g.indexed (ap (role_at k) (on l) ∙ e) p.2 (due p.3 ∙ f) q.2, q.3)
   goes_same {k = k} l to t (g.joins e o) = let p = others_same l o in (_, _, g.joins (ap (role_at k) (on l) ∙ e) p.2, p.3)
 
-  others_same : {k : ℕ} {separator : Mark} {all : Operands} {ts us rest : Tokens} → SameMarks ts us → Others k separator ts all rest
+  others_same : {k : ℕ} {separator : TokenMark} {all : Operands} {ts us rest : Tokens} → SameMarks ts us → Others k separator ts all rest
       → (xs : List PhraseTree) × (end : Tokens) × Others k separator us (operands_of xs all.height) end × SameMarks rest end
   others_same l (g.no_more n) = (_, _, g.no_more (other l n), l)
   others_same l (g.one_more e d o) =
@@ -168,7 +168,7 @@ mutual
       let q = others_same p.3 o in
       (_, _, g.one_more (on l ∙ e) p.2 q.2, q.3)
 
-  listing_same : {k j : ℕ} {close shut : Mark} {all : Operands} {ts us rest : Tokens} → j ≡ k → shut ≡ close → SameMarks ts us → Listing k close ts all rest
+  listing_same : {k j : ℕ} {close shut : TokenMark} {all : Operands} {ts us rest : Tokens} → j ≡ k → shut ≡ close → SameMarks ts us → Listing k close ts all rest
       → (xs : List PhraseTree) × (end : Tokens) × Listing j shut us (operands_of xs all.height) end × SameMarks rest end
   listing_same same_level same_close l (g.no_operands e) = (_, _, g.no_operands (due l ∙ (e ∙ sym same_close)), passed l)
   listing_same {us = us} same_level same_close l (g.operands {x = x} {all = all} d o e) =

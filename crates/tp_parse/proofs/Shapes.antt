@@ -1,7 +1,7 @@
 -- A phrase has a height, and leaves no more tokens than there were.
 use Rattle.std.proofs.Common.{◌≡◌, ◌≢◌, ℕ, suc, ◌<◌, ◌≤◌, true, false, cond, eqb, List, [], ◌∷◌, length, drop, refl, sym, ◌∙◌, arith}
-use Rattle.tp_parse.specs.declared.mark.Mark.{Mark}
-use Rattle.tp_parse.specs.declared.mark.Mark.TheVariants as m
+use Rattle.tp_parse.specs.declared.mark.TokenMark.{TokenMark}
+use Rattle.tp_parse.specs.declared.mark.TokenMark.TheVariants as m
 use Rattle.tp_parse.specs.declared.mark.TokenRole.{TokenRole}
 use Rattle.tp_parse.specs.declared.mark.TokenRole.TheVariants.{Ends}
 use Rattle.tp_parse.specs.declared.mark.Start.TheVariants as s
@@ -44,7 +44,7 @@ passed ts = elim (same (mark_due ts) (mark ts)) as (λ b. length (cond b (drop 1
     halved_length [] = omega arith
     halved_length (t ∷ us) = omega arith
 
-pub taken : (ts : Tokens) (x : Mark) → mark ts ≡ x → x ≢ m.End → length (drop 1 ts) < length ts
+pub taken : (ts : Tokens) (x : TokenMark) → mark ts ≡ x → x ≢ m.End → length (drop 1 ts) < length ts
 unfolding mark
 taken [] x e some = absurd (some (sym e))
 taken (t ∷ ts) x e some = omega arith
@@ -100,11 +100,11 @@ mutual
   goes_shorter {ts = ts} (indexed {end = end} e d f g) = omega (arith, dropped ts, shorter d, passed end, goes_shorter g)
   goes_shorter (joins e o) = others_shorter o
 
-  pub others_shorter : {k : ℕ} {separator : Mark} {all : Operands} {ts rest : Tokens} → Others k separator ts all rest → length rest ≤ length ts
+  pub others_shorter : {k : ℕ} {separator : TokenMark} {all : Operands} {ts rest : Tokens} → Others k separator ts all rest → length rest ≤ length ts
   others_shorter (no_more e) = omega arith
   others_shorter {ts = ts} (one_more e d o) = omega (arith, dropped ts, shorter d, others_shorter o)
 
-  listing_shorter : {k : ℕ} {close : Mark} {all : Operands} {ts rest : Tokens} → Listing k close ts all rest → length rest ≤ length ts
+  listing_shorter : {k : ℕ} {close : TokenMark} {all : Operands} {ts rest : Tokens} → Listing k close ts all rest → length rest ≤ length ts
   listing_shorter {ts = ts} (no_operands e) = passed ts
   listing_shorter (operands {end = end} d o e) = omega (arith, shorter d, others_shorter o, passed end)
 

@@ -7,14 +7,14 @@ use Rattle.tp_tree.specs.declared.operator.Op.{Op}
 use Rattle.tp_tree.specs.declared.operator.Grouping.{Grouping}
 use Rattle.tp_tree.specs.declared.operator.Grouping.TheVariants.{Left, Single, Right}
 use Rattle.tp_tree.specs.Levels.{chop_level, grouping, level_right_of, right_level}
-use Rattle.tp_parse.specs.declared.mark.Mark.{Mark}
-use Rattle.tp_parse.specs.declared.mark.Mark.TheVariants as m
+use Rattle.tp_parse.specs.declared.mark.TokenMark.{TokenMark}
+use Rattle.tp_parse.specs.declared.mark.TokenMark.TheVariants as m
 use Rattle.tp_parse.specs.declared.mark.TokenRole.{TokenRole}
 use Rattle.tp_parse.specs.declared.mark.TokenRole.TheVariants.{Ends, Infix, Opens, Joins}
 use Rattle.tp_parse.specs.declared.head.PrimaryHead.{PrimaryHead}
 use Rattle.tp_parse.specs.declared.head.PrimaryHead.TheVariants as h
 use Rattle.tp_parse.specs.Marks.{role_at, prefix_at, same, start_of, comma, listed_level, listed_close, enclosed_level, enclosed_close, middle, Tokens, mark, from, mark_due, past}
-use Rattle.tp_parse.specs.Readers.{Reader, and_then, ◌>>=◌, pure, sees}
+use Rattle.tp_parse.specs.Readers.{TokenReader, and_then, ◌>>=◌, pure, sees}
 use Rattle.tp_parse.specs.Head.{head_by}
 use Rattle.tp_parse.specs.Grammar.{Found, Operands, no_operand, operand_then, operands_of, of_atom, of_operands, of_enclosed, of_choice, of_choice_else, of_pair, of_exists, of_prefix, of_infix, of_index, of_chain, BeginsPrimary, Parses, atom, listed, enclosed, if_then, if_else, paired, quantified, prefixed, level, Goes, ends, left, single, right, indexed, joins, Others, no_more, one_more, Listing, no_operands, operands}
 use Rattle.tp_parse.specs.Seen.{then_operand}
@@ -47,9 +47,9 @@ joined_more all a more =
     let same : max (max all.height a.height) more.height ≡ max all.height (max a.height more.height) = omega arith in
     rw (append_assoc all.trees (a.tree ∷ []) more.trees, same) refl
 
-module _ (inner : ℕ → Reader Found) (room : ℕ) (sound : (k : ℕ) (ts : Tokens) (p : Found × Tokens) → inner k ts ≡ Ok p → Is room k ts p) where
+module _ (inner : ℕ → TokenReader Found) (room : ℕ) (sound : (k : ℕ) (ts : Tokens) (p : Found × Tokens) → inner k ts ≡ Ok p → Is room k ts p) where
   -- a phrase, and the mark that is due after it
-  part_then : {B : Type 0} (k : ℕ) (close : Mark) (ts : Tokens) (f : Found → Reader B) (y : B × Tokens) → and_then (r.part inner room k close ts) f ≡ Ok y
+  part_then : {B : Type 0} (k : ℕ) (close : TokenMark) (ts : Tokens) (f : Found → TokenReader B) (y : B × Tokens) → and_then (r.part inner room k close ts) f ≡ Ok y
       → (p : Found × Tokens) × Is room k ts p × (mark_due p.1 ≡ close) × (f p.0 (past p.1) ≡ Ok y)
   unfolding r.part
   part_then k close ts f y e =
@@ -59,7 +59,7 @@ module _ (inner : ℕ → Reader Found) (room : ℕ) (sound : (k : ℕ) (ts : To
       let is = ok_is (b.0.0, past b.0.1) a.0 c.1 in
       (b.0, sound k ts b.0 b.1, c.0, ap (λ (q : Found × Tokens). f q.0 q.1) is ∙ a.2)
 
-  pub others_sound : (k : ℕ) (separator : Mark) (n : ℕ) (all : Operands) (ts : Tokens) (p : Operands × Tokens) → separator ≢ m.End → length ts ≤ n → all.height ≤ room
+  pub others_sound : (k : ℕ) (separator : TokenMark) (n : ℕ) (all : Operands) (ts : Tokens) (p : Operands × Tokens) → separator ≢ m.End → length ts ≤ n → all.height ≤ room
       → r.others_from inner room k separator n all ts ≡ Ok p → (more : Operands) × Others k separator ts more p.1 × (p.0 ≡ joined all more) × (more.height ≤ room)
   unfolding r.others_from
   others_sound k separator zero all ts p some few low e =
@@ -86,7 +86,7 @@ module _ (inner : ℕ → Reader Found) (room : ℕ) (sound : (k : ℕ) (ts : To
             )
       ]
 
-  operands_sound : (k : ℕ) (close : Mark) (ts : Tokens) (p : Operands × Tokens) → r.operands inner room k close ts ≡ Ok p → Listing k close ts p.0 p.1 × (p.0.height ≤ room)
+  operands_sound : (k : ℕ) (close : TokenMark) (ts : Tokens) (p : Operands × Tokens) → r.operands inner room k close ts ≡ Ok p → Listing k close ts p.0 p.1 × (p.0.height ≤ room)
   unfolding r.operands r.others
   operands_sound k close ts p e =
       elim (chosen (same (mark_due ts) close) _ _ _ e) [

@@ -16,7 +16,7 @@ use Rattle.tp_tree.specs.Tree.{PhraseTree, phrase, KindTree, PhraseTrees, no_phr
 use Rattle.tp_tree.specs.declared.operator.Grouping.TheVariants.{Left, Single, Right}
 use Rattle.tp_tree.specs.Levels.{op_level, grouping}
 use Rattle.tp_tree.specs.Places.{unplaced, unplaced_kind}
-use Rattle.tp_parse.specs.declared.mark.Mark.TheVariants as m
+use Rattle.tp_parse.specs.declared.mark.TokenMark.TheVariants as m
 use Rattle.tp_parse.specs.declared.mark.Prefix.{Prefix}
 use Rattle.tp_parse.specs.declared.mark.Prefix.TheVariants as prefix
 use Rattle.tp_parse.specs.declared.mark.Enclosure.TheVariants as enclosure

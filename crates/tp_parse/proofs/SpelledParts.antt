@@ -8,7 +8,7 @@ use Rattle.tp_lex.specs.declared.token.Kind.TheVariants as kind
 use Rattle.tp_tree.specs.Tree.{PhraseTree, phrase, KindTree, PhraseTrees, no_phrase, phrase_then, phrases_of}
 use Rattle.tp_tree.specs.Levels.{kind_level}
 use Rattle.tp_tree.specs.Places.{unplaced, unplaced_kind, unplaced_all}
-use Rattle.tp_parse.specs.declared.mark.Mark.TheVariants as m
+use Rattle.tp_parse.specs.declared.mark.TokenMark.TheVariants as m
 use Rattle.tp_parse.specs.declared.mark.Enclosure.TheVariants as enclosure
 use Rattle.tp_parse.specs.Marks.{kind_mark, start_of, comma, Tokens, mark, first_name, half_mark, past}
 use Rattle.tp_parse.specs.Grammar.{Operands, no_operand, operand_then, Parses, Others, Listing, ReadsNames, open_round}

@@ -7,7 +7,7 @@ use Rattle.tp_lex.specs.declared.token.Symbol.TheVariants as symbol
 use Rattle.tp_tree.specs.Tree as t
 use Rattle.tp_tree.specs.Tree.{PhraseTree, phrase, KindTree, PhraseTrees, no_phrase, phrase_then, DefinitionTree, SourceTree}
 use Rattle.tp_tree.specs.Places.{unplaced, unplaced_definition}
-use Rattle.tp_parse.specs.declared.mark.Mark.TheVariants as m
+use Rattle.tp_parse.specs.declared.mark.TokenMark.TheVariants as m
 use Rattle.tp_parse.specs.Marks.{Tokens, past}
 use Rattle.tp_parse.specs.Grammar.{Found, source_of, Parses, Sentence, Parameters, Defines, Definitions, IsSource, Accepts}
 use Rattle.tp_parse.specs.Grammar as g

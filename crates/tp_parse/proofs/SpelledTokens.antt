@@ -7,8 +7,8 @@ use Rattle.tp_lex.specs.declared.token.Word.TheVariants as word
 use Rattle.tp_lex.specs.declared.token.Symbol.TheVariants as symbol
 use Rattle.tp_tree.specs.Tree.{PhraseTree}
 use Rattle.tp_tree.specs.Places.{unplaced}
-use Rattle.tp_parse.specs.declared.mark.Mark.{Mark}
-use Rattle.tp_parse.specs.declared.mark.Mark.TheVariants as m
+use Rattle.tp_parse.specs.declared.mark.TokenMark.{TokenMark}
+use Rattle.tp_parse.specs.declared.mark.TokenMark.TheVariants as m
 use Rattle.tp_parse.specs.declared.mark.TokenRole.TheVariants.{Ends}
 use Rattle.tp_parse.specs.declared.mark.Start.TheVariants as s
 use Rattle.tp_parse.specs.Marks.{kind_mark, role_of, role_at, level_of, start_of, Tokens, mark, from, first_number, first_name, kind_number, kind_name, mark_due, half_mark, past, left_of, without_half}
@@ -33,7 +33,7 @@ next_is (t ∷ ts) k ks e =
     let later : token_kinds ts ≡ ks = cc in
     record { mark = ap kind_mark same; later = later; number = ap kind_number same; name = ap kind_name same }
 
-abbrev pub next_mark : List Kind → Mark
+abbrev pub next_mark : List Kind → TokenMark
 next_mark [] = m.End
 next_mark (k ∷ ks) = kind_mark k
 

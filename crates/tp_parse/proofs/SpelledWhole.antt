@@ -5,8 +5,8 @@ use Rattle.tp_lex.specs.declared.token.Word.TheVariants as word
 use Rattle.tp_lex.specs.declared.token.Symbol.{Symbol}
 use Rattle.tp_lex.specs.declared.token.Symbol.TheVariants as symbol
 use Rattle.tp_tree.specs.Tree.{PhraseTree, PhraseTrees, phrases_of, DefinitionTree, SourceTree}
-use Rattle.tp_parse.specs.declared.mark.Mark.{Mark}
-use Rattle.tp_parse.specs.declared.mark.Mark.TheVariants as m
+use Rattle.tp_parse.specs.declared.mark.TokenMark.{TokenMark}
+use Rattle.tp_parse.specs.declared.mark.TokenMark.TheVariants as m
 use Rattle.tp_parse.specs.declared.mark.TokenRole.TheVariants.{Ends, Joins}
 use Rattle.tp_parse.specs.declared.mark.Prefix.{Prefix}
 use Rattle.tp_parse.specs.declared.mark.Prefix.TheVariants as prefix
@@ -68,7 +68,7 @@ symbol_joins : (x : Symbol) → role_of (m.Symbol x) ≡ Joins → m.Symbol x �
 symbol_joins symbol.Bar e = absurd cc
 symbol_joins _ e = absurd cc
 
-mark_joins : (x : Mark) → role_of x ≡ Joins → x ≡ m.Word word.And
+mark_joins : (x : TokenMark) → role_of x ≡ Joins → x ≡ m.Word word.And
 mark_joins (m.Word w) e = let q = word_joins w e in cc
 mark_joins (m.Symbol x) e = symbol_joins x e
 mark_joins m.End e = absurd cc
@@ -76,7 +76,7 @@ mark_joins m.Upper e = absurd cc
 mark_joins m.Lower e = absurd cc
 mark_joins m.Number e = absurd cc
 
-joins_and : (k : ℕ) (x : Mark) → role_at k x ≡ Joins → x ≡ m.Word word.And
+joins_and : (k : ℕ) (x : TokenMark) → role_at k x ≡ Joins → x ≡ m.Word word.And
 unfolding role_at
 joins_and k x e = by (eqb (level_of (role_of x)) k) e
   where
@@ -84,7 +84,7 @@ joins_and k x e = by (eqb (level_of (role_of x)) k) e
     by true q = mark_joins x q
     by false q = absurd cc
 
-two : {k : ℕ} {separator : Mark} {all : Operands} {ts rest : Tokens} (a : PhraseTree) → mark ts ≡ separator → Others k separator ts all rest → HasTwo (phrases_of (a ∷ all.trees))
+two : {k : ℕ} {separator : TokenMark} {all : Operands} {ts rest : Tokens} (a : PhraseTree) → mark ts ≡ separator → Others k separator ts all rest → HasTwo (phrases_of (a ∷ all.trees))
 two a e (g.no_more n) = absurd (n e)
 two a e (g.one_more q d o) = tt
 
@@ -108,11 +108,11 @@ mutual
   goes_whole w (g.indexed e d c f) = goes_whole (w, phrase_whole d) f
   goes_whole {k = k} {a = a} {ts = ts} w (g.joins e o) = (two a.tree (joins_and k (mark ts) e) o, (w, others_whole o))
 
-  others_whole : {k : ℕ} {separator : Mark} {all : Operands} {ts rest : Tokens} → Others k separator ts all rest → AreWhole (phrases_of all.trees)
+  others_whole : {k : ℕ} {separator : TokenMark} {all : Operands} {ts rest : Tokens} → Others k separator ts all rest → AreWhole (phrases_of all.trees)
   others_whole (g.no_more e) = tt
   others_whole (g.one_more e d o) = (phrase_whole d, others_whole o)
 
-  listing_whole : {k : ℕ} {close : Mark} {all : Operands} {ts rest : Tokens} → Listing k close ts all rest → AreWhole (phrases_of all.trees)
+  listing_whole : {k : ℕ} {close : TokenMark} {all : Operands} {ts rest : Tokens} → Listing k close ts all rest → AreWhole (phrases_of all.trees)
   listing_whole (g.no_operands e) = tt
   listing_whole (g.operands d o e) = (phrase_whole d, others_whole o)
 

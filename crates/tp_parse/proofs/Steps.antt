@@ -4,7 +4,7 @@ use Rattle.std.proofs.Common.{Ok, Err, Some, None, [], ◌∷◌}
 use Rattle.tp_parse.specs.Marks.{before, prefix_at, role_at, Tokens, mark, from}
 use Rattle.tp_parse.specs.declared.mark.TokenRole.TheVariants.{Ends}
 use Rattle.tp_parse.specs.declared.stop.Refusal.{Refusal}
-use Rattle.tp_parse.specs.Readers.{Reader}
+use Rattle.tp_parse.specs.Readers.{TokenReader}
 use Rattle.tp_parse.specs.Grammar.{Found}
 use Rattle.tp_parse.specs.Reading.{read, levels, level, level_by, first, first_by, operations, go, turn}
 use Rattle.tp_parse.proofs.Marks.{no_prefix_at, no_prefix_at_zero, some_prefix_at}
@@ -18,7 +18,7 @@ unfolding read
 read_levels zero k ts some = absurd (omega arith)
 read_levels (suc room) k ts some = let one : suc room - 1 ≡ room = omega arith in rw one refl
 
-module _ (inner : ℕ → Reader Found) (room : ℕ) where
+module _ (inner : ℕ → TokenReader Found) (room : ℕ) where
   pub levels_first : (k : ℕ) (ts : Tokens) → (0 < k → before (mark ts) ≡ k) → levels inner room k ts ≡ first inner room k ts
   unfolding levels level first
   levels_first zero ts own = rw (no_prefix_at_zero (mark ts)) refl

@@ -18,8 +18,8 @@ use Rattle.tp_lex.specs.Tokens.{ReadsTokens, ReadingEnd, Whole, whole, gap, lexe
 use Rattle.tp_lex.proofs.PieceLemmas.{some_name}
 use Rattle.tp_lex.proofs.LawLemmas.{first_stays}
 use Rattle.tp_tree.specs.Tree.{PhraseTree, PhraseTrees, phrases_of, DefinitionTree, SourceTree}
-use Rattle.tp_parse.specs.declared.mark.Mark.{Mark}
-use Rattle.tp_parse.specs.declared.mark.Mark.TheVariants as m
+use Rattle.tp_parse.specs.declared.mark.TokenMark.{TokenMark}
+use Rattle.tp_parse.specs.declared.mark.TokenMark.TheVariants as m
 use Rattle.tp_parse.specs.declared.mark.Prefix.{Prefix}
 use Rattle.tp_parse.specs.declared.mark.Prefix.TheVariants as prefix
 use Rattle.tp_parse.specs.declared.mark.Enclosure.{Enclosure}
@@ -123,7 +123,7 @@ passed ts are = elim (same (mark_due ts) (mark ts)) as (λ b. AreTokenTexts (con
 -- ---- the next token
 
 -- what holds of the name and the number of a token with this mark
-abbrev IsMarkText : Mark → List ℕ → ℤ → Type 0
+abbrev IsMarkText : TokenMark → List ℕ → ℤ → Type 0
 IsMarkText m.Upper x n = IsVariableText x
 IsMarkText m.Lower x n = IsLowerText x
 IsMarkText m.Number x n = IsNumeral n
@@ -143,7 +143,7 @@ unfolding mark first_name first_number
 first_text [] are = tt
 first_text (t ∷ ts) are = kind_text t.kind are.0
 
-text_of : (ts : Tokens) → AreTokenTexts ts → (x : Mark) → mark ts ≡ x → IsMarkText x (first_name ts) (first_number ts)
+text_of : (ts : Tokens) → AreTokenTexts ts → (x : TokenMark) → mark ts ≡ x → IsMarkText x (first_name ts) (first_number ts)
 text_of ts are x e = subst (λ y. IsMarkText y (first_name ts) (first_number ts)) e (first_text ts are)
 
 name_of : (ts : Tokens) → AreTokenTexts ts → (mark ts ≡ m.Upper) ⊎ (mark ts ≡ m.Lower) → IsVariableText (first_name ts)
@@ -151,7 +151,7 @@ name_of ts are (inl e) = text_of ts are m.Upper e
 name_of ts are (inr e) = (text_of ts are m.Lower e).variable
 
 -- of one that starts so
-start_text : (ts : Tokens) → AreTokenTexts ts → (x : Mark) → mark_of_start (start_of (mark ts)) ≡ Some x → IsMarkText x (first_name ts) (first_number ts)
+start_text : (ts : Tokens) → AreTokenTexts ts → (x : TokenMark) → mark_of_start (start_of (mark ts)) ≡ Some x → IsMarkText x (first_name ts) (first_number ts)
 start_text ts are x e = text_of ts are x (started (mark ts) x e)
 
 names_of : {ts rest : Tokens} {xs : List (List ℕ)} → ReadsNames ts xs rest → AreTokenTexts ts → AreVariableTexts xs × AreTokenTexts rest
@@ -256,14 +256,14 @@ mutual
   goes_text {ts = ts} w (g.indexed {end = end} e d c f) are = let operand = phrase_text d (dropped ts are) in goes_text (w, operand.0) f (passed end operand.1)
   goes_text w (g.joins e o) are = let others = others_text o are in ((w, others.0), others.1)
 
-  others_text : {k : ℕ} {separator : Mark} {all : Operands} {ts rest : Tokens} → Others k separator ts all rest → AreTokenTexts ts → AreSpellable (phrases_of all.trees) × AreTokenTexts rest
+  others_text : {k : ℕ} {separator : TokenMark} {all : Operands} {ts rest : Tokens} → Others k separator ts all rest → AreTokenTexts ts → AreSpellable (phrases_of all.trees) × AreTokenTexts rest
   others_text (g.no_more e) are = (tt, are)
   others_text {ts = ts} (g.one_more e d o) are =
       let first = phrase_text d (dropped ts are) in
       let others = others_text o first.1 in
       ((first.0, others.0), others.1)
 
-  listing_text : {k : ℕ} {close : Mark} {all : Operands} {ts rest : Tokens} → Listing k close ts all rest → AreTokenTexts ts → AreSpellable (phrases_of all.trees) × AreTokenTexts rest
+  listing_text : {k : ℕ} {close : TokenMark} {all : Operands} {ts rest : Tokens} → Listing k close ts all rest → AreTokenTexts ts → AreSpellable (phrases_of all.trees) × AreTokenTexts rest
   listing_text {ts = ts} (g.no_operands e) are = (tt, passed ts are)
   listing_text (g.operands {end = end} d o e) are =
       let first = phrase_text d are in

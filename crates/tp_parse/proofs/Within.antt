@@ -7,8 +7,8 @@ use Rattle.tp_tree.specs.declared.operator.Op.{Op}
 use Rattle.tp_tree.specs.Levels.{chop_level, right_level}
 use Rattle.tp_parse.specs.declared.stop.Refusal.{Refusal}
 use Rattle.tp_parse.specs.declared.stop.Refusal.TheVariants.{Unexpected, Unfinished, TooDeep, NoMemory}
-use Rattle.tp_parse.specs.declared.mark.Mark.{Mark}
-use Rattle.tp_parse.specs.declared.mark.Mark.TheVariants as m
+use Rattle.tp_parse.specs.declared.mark.TokenMark.{TokenMark}
+use Rattle.tp_parse.specs.declared.mark.TokenMark.TheVariants as m
 use Rattle.tp_parse.specs.declared.mark.TokenRole.{TokenRole}
 use Rattle.tp_parse.specs.declared.mark.TokenRole.TheVariants.{Ends, Infix, Opens, Joins}
 use Rattle.tp_parse.specs.declared.mark.Start.{Start}
@@ -19,7 +19,7 @@ use Rattle.tp_parse.specs.declared.head.Atom.TheVariants as atom
 use Rattle.tp_parse.specs.declared.head.Listed.TheVariants as listed
 use Rattle.tp_parse.specs.Marks.{same, prefix_at, role_at, start_of, comma, listed_level, listed_close, enclosed_level, enclosed_close, middle, Tokens, mark, from, mark_due}
 use Rattle.tp_parse.specs.Readers as readers
-use Rattle.tp_parse.specs.Readers.{ReadOutcome, Reader, and_then, ◌>>=◌, pure, refuse, too_deep, sees, take, taken_name, lower, any_name, names, names_from, expect, deepen}
+use Rattle.tp_parse.specs.Readers.{ReadOutcome, TokenReader, and_then, ◌>>=◌, pure, refuse, too_deep, sees, take, taken_name, lower, any_name, names, names_from, expect, deepen}
 use Rattle.tp_parse.specs.Head.{name_or_call, counter, head_by, is_high, admit, begins, unfit}
 use Rattle.tp_parse.specs.Grammar.{Found, Operands, operands_of, of_choice, of_choice_else, of_infix, of_index, of_prefix, limit, defined, source_of}
 use Rattle.tp_parse.specs.Seen.{then_operand}
@@ -56,7 +56,7 @@ pub more : {A : Type 0} {o : ReadOutcome A} {ts us : Tokens} → length us ≤ l
 more le (ok is) = ok (omega arith)
 more {ts = ts} {us = us} le (err {e = e} is) = err (names_more (length us) (length ts) e le is)
 
-pub bind : {A B : Type 0} {o : ReadOutcome A} {ts : Tokens} (f : A → Reader B) → Within ts o → ((x : A) (us : Tokens) → Within us (f x us)) → Within ts (and_then o f)
+pub bind : {A B : Type 0} {o : ReadOutcome A} {ts : Tokens} (f : A → TokenReader B) → Within ts o → ((x : A) (us : Tokens) → Within us (f x us)) → Within ts (and_then o f)
 bind f (ok {x = x} {rest = rest} is) then = more is (then x rest)
 bind f (err is) then = err is
 
@@ -75,7 +75,7 @@ choose false p q = q
 pub took : {A : Type 0} {x : A} (ts : Tokens) → Within ts (Ok (x, drop 1 ts))
 took ts = ok (dropped ts)
 
-pub choose_at : {A : Type 0} {ts : Tokens} (b : Bool) (f g : Reader A) → Within ts (f ts) → Within ts (g ts) → Within ts (cond b f g ts)
+pub choose_at : {A : Type 0} {ts : Tokens} (b : Bool) (f g : TokenReader A) → Within ts (f ts) → Within ts (g ts) → Within ts (cond b f g ts)
 choose_at true f g p q = p
 choose_at false f g p q = q
 
@@ -88,7 +88,7 @@ took_name ts = took ts
 pub stays : {A : Type 0} {x : A} (ts : Tokens) → Within ts (Ok (x, ts))
 stays ts = ok (omega arith)
 
-pub expected : (x : Mark) (ts : Tokens) → Within ts (expect x ts)
+pub expected : (x : TokenMark) (ts : Tokens) → Within ts (expect x ts)
 unfolding expect
 expected x ts = choose (same (mark_due ts) x) (ok (passed ts)) (refused ts)
 
@@ -180,17 +180,17 @@ unfolding mark
 some_by_prefix k [] some = absurd (some (prefix_end k))
 some_by_prefix k (t ∷ ts) some = omega arith
 
-module _ (inner : ℕ → Reader Found) (room : ℕ) (within : (k : ℕ) (ts : Tokens) → Within ts (inner k ts)) where
-  pub parted : (k : ℕ) (close : Mark) (ts : Tokens) → Within ts (r.part inner room k close ts)
+module _ (inner : ℕ → TokenReader Found) (room : ℕ) (within : (k : ℕ) (ts : Tokens) → Within ts (inner k ts)) where
+  pub parted : (k : ℕ) (close : TokenMark) (ts : Tokens) → Within ts (r.part inner room k close ts)
   unfolding r.part
   parted k close ts = bind _ (within k ts) (λ x us. bind _ (expected close us) (λ w ws. stays ws))
 
-  pub othered : (k : ℕ) (separator : Mark) (n : ℕ) (all : Operands) (ts : Tokens) → Within ts (r.others_from inner room k separator n all ts)
+  pub othered : (k : ℕ) (separator : TokenMark) (n : ℕ) (all : Operands) (ts : Tokens) → Within ts (r.others_from inner room k separator n all ts)
   unfolding r.others_from
   othered k separator zero all ts = stays ts
   othered k separator (suc n) all ts = choose (sees separator ts) (bind _ (took_one ts) (λ u us. bind _ (within k us) (λ x vs. othered k separator n (then_operand all x) vs))) (stays ts)
 
-  pub operanded : (k : ℕ) (close : Mark) (ts : Tokens) → Within ts (r.operands inner room k close ts)
+  pub operanded : (k : ℕ) (close : TokenMark) (ts : Tokens) → Within ts (r.operands inner room k close ts)
   unfolding r.operands r.others
   operanded k close ts = choose (same (mark_due ts) close) (ok (passed ts))
       (bind _ (within k ts) (λ x us. bind _ (othered k comma (length us) (operands_of (x.tree ∷ []) x.height) us) (λ all vs. bind _ (expected close vs) (λ w ws. stays ws))))

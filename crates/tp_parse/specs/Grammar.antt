@@ -21,8 +21,8 @@ use Rattle.tp_tree.specs.declared.operator.Grouping.TheVariants.{Left, Single, R
 use Rattle.tp_tree.specs.Levels.{chop_level, grouping}
 use Rattle.tp_tree.specs.declared.operator.Bare.{Bare}
 use Rattle.tp_tree.specs.declared.operator.Form.{Form}
-use Rattle.tp_parse.specs.declared.mark.Mark.{Mark}
-use Rattle.tp_parse.specs.declared.mark.Mark.TheVariants as m
+use Rattle.tp_parse.specs.declared.mark.TokenMark.{TokenMark}
+use Rattle.tp_parse.specs.declared.mark.TokenMark.TheVariants as m
 use Rattle.tp_parse.specs.declared.mark.TokenRole.TheVariants.{Ends, Infix, Opens, Joins}
 use Rattle.tp_parse.specs.declared.mark.Start.{Start}
 use Rattle.tp_parse.specs.declared.mark.Start.TheVariants as s
@@ -136,13 +136,13 @@ source_of ds main = record { definitions = ds; main = main }
 abbrev pub start : Tokens → Start
 start ts = start_of (mark ts)
 
-abbrev pub open_round : Mark
+abbrev pub open_round : TokenMark
 open_round = m.Symbol symbol.OpenRound
 
-abbrev pub close_round : Mark
+abbrev pub close_round : TokenMark
 close_round = m.Symbol symbol.CloseRound
 
-abbrev pub colon : Mark
+abbrev pub colon : TokenMark
 colon = m.Symbol symbol.Colon
 
 -- name { "," name }
@@ -243,18 +243,18 @@ mutual
         → Goes k at x ts (of_chain at (operand_then x all)) rest
 
   -- { separator operand }
-  pub data Others : ℕ → Mark → Tokens → Operands → Tokens → Type 0 where
-    no_more : {k : ℕ} {separator : Mark} {ts : Tokens} → mark ts ≢ separator
+  pub data Others : ℕ → TokenMark → Tokens → Operands → Tokens → Type 0 where
+    no_more : {k : ℕ} {separator : TokenMark} {ts : Tokens} → mark ts ≢ separator
         → Others k separator ts no_operand ts
-    one_more : {k : ℕ} {separator : Mark} {x : Found} {all : Operands} {ts mid rest : Tokens}
+    one_more : {k : ℕ} {separator : TokenMark} {x : Found} {all : Operands} {ts mid rest : Tokens}
         → mark ts ≡ separator → Parses k (drop 1 ts) x mid
         → Others k separator mid all rest → Others k separator ts (operand_then x all) rest
 
   -- [ operand { "," operand } ] close
-  pub data Listing : ℕ → Mark → Tokens → Operands → Tokens → Type 0 where
-    no_operands : {k : ℕ} {close : Mark} {ts : Tokens} → mark_due ts ≡ close
+  pub data Listing : ℕ → TokenMark → Tokens → Operands → Tokens → Type 0 where
+    no_operands : {k : ℕ} {close : TokenMark} {ts : Tokens} → mark_due ts ≡ close
         → Listing k close ts no_operand (past ts)
-    operands : {k : ℕ} {close : Mark} {x : Found} {all : Operands} {ts mid end : Tokens}
+    operands : {k : ℕ} {close : TokenMark} {x : Found} {all : Operands} {ts mid end : Tokens}
         → Parses k ts x mid → Others k comma mid all end → mark_due end ≡ close
         → Listing k close ts (operand_then x all) (past end)
 

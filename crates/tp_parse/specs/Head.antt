@@ -1,8 +1,8 @@
 -- What a primary begins with, up to its first operand.
 use Rattle.std.specs.Prelude.{ℕ, Bool, true, false, not, ◌==◌, nat_le, if◌then◌else◌, List, length, drop, Ok}
 use Rattle.tp_lex.specs.declared.token.Symbol.TheVariants as symbol
-use Rattle.tp_parse.specs.declared.mark.Mark.{Mark}
-use Rattle.tp_parse.specs.declared.mark.Mark.TheVariants as m
+use Rattle.tp_parse.specs.declared.mark.TokenMark.{TokenMark}
+use Rattle.tp_parse.specs.declared.mark.TokenMark.TheVariants as m
 use Rattle.tp_parse.specs.declared.mark.Start.{Start}
 use Rattle.tp_parse.specs.declared.mark.Start.TheVariants as s
 use Rattle.tp_parse.specs.declared.head.PrimaryHead.{PrimaryHead}
@@ -13,26 +13,26 @@ use Rattle.tp_parse.specs.declared.head.Pair.TheVariants as pair
 use Rattle.tp_parse.specs.declared.stop.Refusal.{Refusal}
 use Rattle.tp_parse.specs.declared.stop.Refusal.TheVariants.{TooDeep}
 use Rattle.tp_parse.specs.Marks.{before, start_of, Tokens, mark, first_number, first_name, past}
-use Rattle.tp_parse.specs.Readers.{Reader, ◌>>=◌, pure, refusal, refuse, sees, take, expect, taken_name, lower, names, deepen}
+use Rattle.tp_parse.specs.Readers.{TokenReader, ◌>>=◌, pure, refusal, refuse, sees, take, expect, taken_name, lower, names, deepen}
 
-abbrev pub head_taken : PrimaryHead → Reader PrimaryHead
+abbrev pub head_taken : PrimaryHead → TokenReader PrimaryHead
 head_taken h = λ ts. Ok (h, drop 1 ts)
 
-unfoldable pub name_or_call : Reader PrimaryHead
+unfoldable pub name_or_call : TokenReader PrimaryHead
 name_or_call = do
   x ← taken_name
   λ ts. if sees (m.Symbol symbol.OpenRound) ts then Ok (Listed (listed.Call x), drop 1 ts)
       else Ok (Atom (atom.Name x), ts)
 
 -- a loop's word, its variable and the `<` after it
-unfoldable pub counter : Reader (List ℕ)
+unfoldable pub counter : TokenReader (List ℕ)
 counter = do
   _word ← take
   x ← lower
   _less ← expect (m.Symbol symbol.Less)
   pure x
 
-abbrev pub head_by : Start → Reader PrimaryHead
+abbrev pub head_by : Start → TokenReader PrimaryHead
 head_by s.Nothing = refuse
 head_by s.Number = λ ts. Ok (Atom (atom.Number (first_number ts)), drop 1 ts)
 head_by s.Name = λ ts. Ok (Atom (atom.Name (first_name ts)), drop 1 ts)
@@ -81,7 +81,7 @@ is_high s.List = false
 is_high (s.Form f) = false
 
 -- with this room for operands
-unfoldable pub admit : ℕ → Start → Reader (Unit {0})
+unfoldable pub admit : ℕ → Start → TokenReader (Unit {0})
 admit room x = if is_high x then deepen room else pure tt
 
 abbrev pub is_nothing : Start → Bool
@@ -89,7 +89,7 @@ is_nothing s.Nothing = true
 is_nothing _ = false
 
 -- whether a phrase of the level may begin with such a token
-unfoldable pub begins : ℕ → Mark → Bool
+unfoldable pub begins : ℕ → TokenMark → Bool
 begins level x = if before x == 0 then not (is_nothing (start_of x)) else nat_le (before x) level
 
 -- why no phrase of the level stands here where none may be 1 high

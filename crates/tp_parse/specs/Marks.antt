@@ -1,5 +1,6 @@
 -- What a token is without its text, and what it does in a phrase; the first of some tokens, and
--- what is left of them behind it. The levels of operators, and how they group, are those of tp_tree.
+-- what is left of them behind it. The levels of operators, and how they group, are those of
+-- tp_tree.
 use Rattle.std.specs.Prelude.{ℕ, Bool, true, false, ◌==◌, if◌then◌else◌, Option, Some, None, ◌-◌, ℤ, pos, List, [], ◌∷◌, drop}
 use denote.Enum.Bare.{sameb}
 use Rattle.tp_lex.specs.declared.token.Kind.{Kind}
@@ -14,8 +15,8 @@ use Rattle.tp_tree.specs.declared.operator.Op.TheVariants as op
 use Rattle.tp_tree.specs.declared.operator.Bare.TheVariants as bare
 use Rattle.tp_tree.specs.declared.operator.Form.TheVariants as form
 use Rattle.tp_tree.specs.Levels.{index_level, prefix_level, sum_level, not_level, and_level, chop_level, op_level}
-use Rattle.tp_parse.specs.declared.mark.Mark.{Mark}
-use Rattle.tp_parse.specs.declared.mark.Mark.TheVariants as m
+use Rattle.tp_parse.specs.declared.mark.TokenMark.{TokenMark}
+use Rattle.tp_parse.specs.declared.mark.TokenMark.TheVariants as m
 use Rattle.tp_parse.specs.declared.mark.TokenRole.{TokenRole}
 use Rattle.tp_parse.specs.declared.mark.TokenRole.TheVariants.{Ends, Infix, Opens, Joins}
 use Rattle.tp_parse.specs.declared.mark.Prefix.{Prefix}
@@ -30,7 +31,7 @@ use Rattle.tp_parse.specs.declared.head.Pair.{Pair}
 use Rattle.tp_parse.specs.declared.head.Pair.TheVariants as pair
 use Rattle.tp_lex.specs.declared.token.Token.{Token}
 
-abbrev pub kind_mark : Kind → Mark
+abbrev pub kind_mark : Kind → TokenMark
 kind_mark (kind.Upper t) = m.Upper
 kind_mark (kind.Lower t) = m.Lower
 kind_mark (kind.Number n) = m.Number
@@ -38,7 +39,7 @@ kind_mark (kind.Word w) = m.Word w
 kind_mark (kind.Symbol s) = m.Symbol s
 
 -- whether two marks are one
-unfoldable pub same : Mark → Mark → Bool
+unfoldable pub same : TokenMark → TokenMark → Bool
 same (m.Word v) (m.Word w) = sameb word_type.the_type v w
 same (m.Symbol s) (m.Symbol t) = sameb symbol_type.the_type s t
 same m.End m.End = true
@@ -59,7 +60,7 @@ second_half symbol.GreaterEqual = symbol.Equal
 second_half x = x
 
 -- the operator before an operand that a token is, if it is one
-abbrev pub prefix_of : Mark → Option Prefix
+abbrev pub prefix_of : TokenMark → Option Prefix
 prefix_of (m.Word word.Not) = Some Not
 prefix_of (m.Word word.Next) = Some Next
 prefix_of (m.Symbol symbol.Minus) = Some Minus
@@ -75,15 +76,15 @@ level_before None = 0
 level_before (Some o) = level_of_prefix o
 
 -- the level of an operator before its operand, or 0
-abbrev pub before : Mark → ℕ
+abbrev pub before : TokenMark → ℕ
 before x = level_before (prefix_of x)
 
 -- the operator before an operand that a token is, where that is of this level
-unfoldable pub prefix_at : ℕ → Mark → Option Prefix
+unfoldable pub prefix_at : ℕ → TokenMark → Option Prefix
 prefix_at level mark = if before mark == level then prefix_of mark else None
 
 -- what a token does after an operand
-abbrev pub role_of : Mark → TokenRole
+abbrev pub role_of : TokenMark → TokenRole
 role_of (m.Symbol symbol.Semicolon) = Infix op.Chop
 role_of (m.Word word.Proj) = Infix op.Proj
 role_of (m.Word word.Or) = Infix op.Or
@@ -112,7 +113,7 @@ level_of Opens = index_level
 level_of Joins = and_level
 
 -- what a token does after an operand at this level
-unfoldable pub role_at : ℕ → Mark → TokenRole
+unfoldable pub role_at : ℕ → TokenMark → TokenRole
 role_at level mark = if level_of (role_of mark) == level then role_of mark else Ends
 
 abbrev pub word_start : Word → Start
@@ -177,7 +178,7 @@ symbol_start symbol.Colon = s.Nothing
 symbol_start symbol.Becomes = s.Nothing
 
 -- what a token begins where an operand is due
-abbrev pub start_of : Mark → Start
+abbrev pub start_of : TokenMark → Start
 start_of m.End = s.Nothing
 start_of m.Upper = s.Name
 start_of m.Lower = s.NameOrCall
@@ -185,7 +186,7 @@ start_of m.Number = s.Number
 start_of (m.Word w) = word_start w
 start_of (m.Symbol x) = symbol_start x
 
-abbrev pub comma : Mark
+abbrev pub comma : TokenMark
 comma = m.Symbol symbol.Comma
 
 -- the level of the operands, and the mark after them
@@ -194,7 +195,7 @@ listed_level listed.List = sum_level
 listed_level (listed.Form f) = chop_level
 listed_level (listed.Call x) = chop_level
 
-abbrev pub listed_close : Listed → Mark
+abbrev pub listed_close : Listed → TokenMark
 listed_close listed.List = m.Symbol symbol.Greater
 listed_close (listed.Form f) = m.Symbol symbol.CloseRound
 listed_close (listed.Call x) = m.Symbol symbol.CloseRound
@@ -204,13 +205,13 @@ enclosed_level Round = chop_level
 enclosed_level Curly = chop_level
 enclosed_level Size = sum_level
 
-abbrev pub enclosed_close : Enclosure → Mark
+abbrev pub enclosed_close : Enclosure → TokenMark
 enclosed_close Round = m.Symbol symbol.CloseRound
 enclosed_close Curly = m.Symbol symbol.CloseCurly
 enclosed_close Size = m.Symbol symbol.Bar
 
 -- the mark between the operands
-abbrev pub middle : Pair → Mark
+abbrev pub middle : Pair → TokenMark
 middle pair.While = m.Word word.Do
 middle pair.Repeat = m.Word word.Until
 middle (pair.For x) = m.Word word.Do
@@ -221,7 +222,7 @@ Tokens = List Token
 
 -- ---- the next token
 
-unfoldable pub mark : Tokens → Mark
+unfoldable pub mark : Tokens → TokenMark
 mark [] = m.End
 mark (t ∷ ts) = kind_mark t.kind
 
@@ -263,11 +264,11 @@ left_of true (t ∷ ts) = halved t ∷ ts
 left_of b ts = ts
 
 -- the next token's mark, or that of its first half
-abbrev pub half_mark : Mark → Mark
+abbrev pub half_mark : TokenMark → TokenMark
 half_mark (m.Symbol x) = m.Symbol (first_half x)
 half_mark x = x
 
-abbrev pub mark_due : Tokens → Mark
+abbrev pub mark_due : Tokens → TokenMark
 mark_due ts = half_mark (mark ts)
 
 -- the tokens after the next one or its first half

@@ -1,8 +1,8 @@
 -- Readers of tokens, and the steps that they are made of.
 use Rattle.std.specs.Prelude.{◌≡◌, ◌≢◌, ℕ, zero, suc, Bool, if◌then◌else◌, List, [], ◌∷◌, length, drop, Result, Ok, Err, ◌||◌, ◌++◌}
 use Rattle.tp_lex.specs.declared.token.Symbol.TheVariants as symbol
-use Rattle.tp_parse.specs.declared.mark.Mark.{Mark}
-use Rattle.tp_parse.specs.declared.mark.Mark.TheVariants as m
+use Rattle.tp_parse.specs.declared.mark.TokenMark.{TokenMark}
+use Rattle.tp_parse.specs.declared.mark.TokenMark.TheVariants as m
 use Rattle.tp_parse.specs.declared.stop.Refusal.{Refusal}
 use Rattle.tp_parse.specs.declared.stop.Refusal.TheVariants.{Unexpected, Unfinished, TooDeep, NoMemory}
 use Rattle.tp_parse.specs.Marks.{same, second_half, Tokens, mark, first_name, mark_due, past}
@@ -10,18 +10,18 @@ use Rattle.tp_parse.specs.Marks.{same, second_half, Tokens, mark, first_name, ma
 abbrev pub ReadOutcome : Type 0 → Type 0
 ReadOutcome A = Result (A × Tokens) Refusal
 
-abbrev pub Reader : Type 0 → Type 0
-Reader A = Tokens → ReadOutcome A
+abbrev pub TokenReader : Type 0 → Type 0
+TokenReader A = Tokens → ReadOutcome A
 
-abbrev pub and_then : {A B : Type 0} → ReadOutcome A → (A → Reader B) → ReadOutcome B
+abbrev pub and_then : {A B : Type 0} → ReadOutcome A → (A → TokenReader B) → ReadOutcome B
 and_then (Ok p) f = f p.0 p.1
 and_then (Err e) f = Err e
 
 infixl 10 ◌>>=◌
-abbrev pub ◌>>=◌ : {A B : Type 0} → Reader A → (A → Reader B) → Reader B
+abbrev pub ◌>>=◌ : {A B : Type 0} → TokenReader A → (A → TokenReader B) → TokenReader B
 p >>= f = λ ts. and_then (p ts) f
 
-abbrev pub pure : {A : Type 0} → A → Reader A
+abbrev pub pure : {A : Type 0} → A → TokenReader A
 pure a = λ ts. Ok (a, ts)
 
 -- ---- the next token
@@ -30,39 +30,39 @@ unfoldable pub refusal : Tokens → Refusal
 refusal [] = Unfinished
 refusal (t ∷ ts) = Unexpected (length (t ∷ ts))
 
-abbrev pub refuse : {A : Type 0} → Reader A
+abbrev pub refuse : {A : Type 0} → TokenReader A
 refuse = λ ts. Err (refusal ts)
 
-abbrev pub too_deep : {A : Type 0} → Reader A
+abbrev pub too_deep : {A : Type 0} → TokenReader A
 too_deep = λ ts. Err (TooDeep (length ts))
 
-abbrev pub sees : Mark → Tokens → Bool
+abbrev pub sees : TokenMark → Tokens → Bool
 sees x ts = same (mark ts) x
 
-abbrev pub take : Reader (Unit {0})
+abbrev pub take : TokenReader (Unit {0})
 take = λ ts. Ok (tt, drop 1 ts)
 
 -- the mark of a token without its first half
-abbrev pub mark_without_half : Mark → Mark
+abbrev pub mark_without_half : TokenMark → TokenMark
 mark_without_half (m.Symbol x) = m.Symbol (second_half x)
 mark_without_half x = x
 
-unfoldable pub expect : Mark → Reader (Unit {0})
+unfoldable pub expect : TokenMark → TokenReader (Unit {0})
 expect x = λ ts. if same (mark_due ts) x then Ok (tt, past ts) else refuse ts
 
 -- ---- names
 
-abbrev pub taken_name : Reader (List ℕ)
+abbrev pub taken_name : TokenReader (List ℕ)
 taken_name = λ ts. Ok (first_name ts, drop 1 ts)
 
-unfoldable pub lower : Reader (List ℕ)
+unfoldable pub lower : TokenReader (List ℕ)
 lower = λ ts. if sees m.Lower ts then taken_name ts else refuse ts
 
-unfoldable pub any_name : Reader (List ℕ)
+unfoldable pub any_name : TokenReader (List ℕ)
 any_name = λ ts. if sees m.Upper ts || sees m.Lower ts then taken_name ts else refuse ts
 
 -- after the names that were read
-unfoldable pub names_from : ℕ → List (List ℕ) → Reader (List (List ℕ))
+unfoldable pub names_from : ℕ → List (List ℕ) → TokenReader (List (List ℕ))
 names_from zero xs = pure xs
 names_from (suc n) xs = λ ts. if sees (m.Symbol symbol.Comma) ts then (do
   _comma ← take
@@ -70,7 +70,7 @@ names_from (suc n) xs = λ ts. if sees (m.Symbol symbol.Comma) ts then (do
   names_from n (xs ++ x ∷ [])) ts else pure xs ts
 
 -- names with commas between them, at least one
-unfoldable pub names : Reader (List (List ℕ))
+unfoldable pub names : TokenReader (List (List ℕ))
 names = do
   x ← any_name
   λ ts. names_from (length ts) (x ∷ []) ts
@@ -78,7 +78,7 @@ names = do
 -- ---- the room for operands
 
 -- where operands of this room are due: none are, if it is 0
-unfoldable pub deepen : ℕ → Reader (Unit {0})
+unfoldable pub deepen : ℕ → TokenReader (Unit {0})
 deepen zero = too_deep
 deepen (suc n) = pure tt
 

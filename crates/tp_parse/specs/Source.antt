@@ -6,13 +6,13 @@ use Rattle.tp_tree.specs.declared.phrase.Definitions.{Definitions}
 use Rattle.tp_tree.specs.Tree.{PhraseTree, DefinitionTree, SourceTree}
 use Rattle.tp_tree.specs.declared.phrase.Source.{Source}
 use Rattle.tp_tree.specs.Read.{definition_tree, source_tree}
-use Rattle.tp_parse.specs.declared.mark.Mark.TheVariants as m
+use Rattle.tp_parse.specs.declared.mark.TokenMark.TheVariants as m
 use Rattle.tp_parse.specs.declared.stop.Refusal.{Refusal}
 use Rattle.tp_parse.specs.declared.stop.Refusal.TheVariants as r
 use Rattle.tp_parse.specs.declared.refusal.ParseRefusal.{ParseRefusal}
 use Rattle.tp_parse.specs.declared.refusal.ParseRefusal.TheVariants as named_at
 use Rattle.tp_parse.specs.Marks.{Tokens, from}
-use Rattle.tp_parse.specs.Readers.{ReadOutcome, Reader, ◌>>=◌, pure, refusal, sees, take, expect, lower, names}
+use Rattle.tp_parse.specs.Readers.{ReadOutcome, TokenReader, ◌>>=◌, pure, refusal, sees, take, expect, lower, names}
 use Rattle.tp_tree.specs.Levels.{chop_level}
 use Rattle.tp_parse.specs.Grammar.{limit, defined, source_of}
 use Rattle.tp_parse.specs.Reading.{read}
@@ -21,20 +21,20 @@ abbrev pub definition_trees : Definitions → List DefinitionTree
 definition_trees ds = map definition_tree ds.items.items
 
 -- a phrase and the `.` after it
-unfoldable pub sentence : Reader PhraseTree
+unfoldable pub sentence : TokenReader PhraseTree
 sentence = do
   a ← read limit chop_level
   _stop ← expect (m.Symbol symbol.Stop)
   pure a.tree
 
 -- the parameters of a definition and the `)` after them
-unfoldable pub parameters : Reader (List (List ℕ))
+unfoldable pub parameters : TokenReader (List (List ℕ))
 parameters = λ ts. if sees (m.Symbol symbol.CloseRound) ts then Ok ([], drop 1 ts) else (do
   xs ← names
   _close ← expect (m.Symbol symbol.CloseRound)
   pure xs) ts
 
-unfoldable pub definition : Reader DefinitionTree
+unfoldable pub definition : TokenReader DefinitionTree
 definition = λ ts. (do
   _word ← take
   x ← lower
@@ -45,21 +45,21 @@ definition = λ ts. (do
   pure (defined x (from ts) xs body)) ts
 
 -- after the definitions that were read
-unfoldable pub definitions_from : ℕ → List DefinitionTree → Reader (List DefinitionTree)
+unfoldable pub definitions_from : ℕ → List DefinitionTree → TokenReader (List DefinitionTree)
 definitions_from zero ds = pure ds
 definitions_from (suc n) ds = λ ts. if sees (m.Word word.Define) ts then (do
   d ← definition
   definitions_from n (ds ++ d ∷ [])) ts else pure ds ts
 
-unfoldable pub definitions : Reader (List DefinitionTree)
+unfoldable pub definitions : TokenReader (List DefinitionTree)
 definitions = λ ts. definitions_from (length ts) [] ts
 
 -- nothing is left
-unfoldable pub ended : SourceTree → Reader SourceTree
+unfoldable pub ended : SourceTree → TokenReader SourceTree
 ended s [] = Ok (s, [])
 ended s (t ∷ ts) = Err (refusal (t ∷ ts))
 
-unfoldable pub source : Reader SourceTree
+unfoldable pub source : TokenReader SourceTree
 source = do
   ds ← definitions
   _run ← expect (m.Word word.Run)

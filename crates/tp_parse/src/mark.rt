@@ -4,7 +4,7 @@ use tp_tree::{Bare, Form, Op};
 
 /// A token without its text, or the end of the tokens.
 #[derive(Clone, Copy, PartialEq, Eq)]
-pub enum Mark {
+pub enum TokenMark {
     End,
     Upper,
     Lower,

@@ -5,7 +5,7 @@ ghost use Rattle.tp_parse.specs.Readers as readers;
 ghost use Rattle.tp_parse.specs.Readers.{ReturnsReading};
 ghost use Rattle.tp_parse.specs.declared.stop.Refusal.TheVariants.{TooDeep};
 
-use crate::mark::Mark;
+use crate::mark::TokenMark;
 use crate::role::{first_half, mark_of, same, second_half};
 use crate::stop::Refusal;
 use std::alloc::Global;
@@ -49,11 +49,11 @@ impl<'a> Parser<'a> {
 
     /// The next token without its text.
     #[tactic(auto, unfolding(crate::specs::Marks::mark))]
-    pub fn mark(&self) -> Mark
+    pub fn mark(&self) -> TokenMark
         ensures { result ≡ spec.mark self.now }
     {
         match self.tokens {
-            [] => Mark::End,
+            [] => TokenMark::End,
             [token, ..] => {
                 let mark = mark_of(&token.kind);
                 if self.halved {
@@ -111,18 +111,18 @@ impl<'a> Parser<'a> {
     }
 
     /// Whether the next token has that mark.
-    pub fn sees(&self, mark: Mark) -> bool
+    pub fn sees(&self, mark: TokenMark) -> bool
         ensures { result ≡ readers.sees mark self.now }
     {
         same(self.mark(), mark)
     }
 
     /// The next token's mark, or that of its first half.
-    pub fn due(&self) -> Mark
+    pub fn due(&self) -> TokenMark
         ensures { result ≡ spec.mark_due self.now }
     {
         match self.mark() {
-            Mark::Symbol(symbol) => Mark::Symbol(first_half(symbol)),
+            TokenMark::Symbol(symbol) => TokenMark::Symbol(first_half(symbol)),
             mark => mark,
         }
     }
@@ -163,7 +163,7 @@ impl<'a> Parser<'a> {
 
     /// Takes this mark, which is due.
     #[tactic(auto, unfolding(crate::specs::Readers::expect))]
-    pub fn expect(&mut self, mark: Mark) -> Result<(), Refusal>
+    pub fn expect(&mut self, mark: TokenMark) -> Result<(), Refusal>
         ensures { ReturnsReading (λ u. u) (readers.expect mark self.old) result self.new }
     {
         if same(self.due(), mark) {
@@ -197,7 +197,7 @@ impl<'a> Parser<'a> {
     pub fn lower(&mut self, alloc: Global) -> Result<Text, Refusal>
         ensures { ReturnsReading (λ t. t) (readers.lower self.old) result self.new }
     {
-        if self.sees(Mark::Lower) {
+        if self.sees(TokenMark::Lower) {
             self.taken_name(alloc)
         } else {
             Err(self.refusal())
@@ -209,7 +209,7 @@ impl<'a> Parser<'a> {
     fn any_name(&mut self, alloc: Global) -> Result<Text, Refusal>
         ensures { ReturnsReading (λ t. t) (readers.any_name self.old) result self.new }
     {
-        if self.sees(Mark::Upper) || self.sees(Mark::Lower) {
+        if self.sees(TokenMark::Upper) || self.sees(TokenMark::Lower) {
             self.taken_name(alloc)
         } else {
             Err(self.refusal())
@@ -233,7 +233,7 @@ impl<'a> Parser<'a> {
         let mut items = Vec::new(alloc);
         items.push(self.any_name(alloc)?)?;
         for _turn in 0..self.remaining() {
-            if !self.sees(Mark::Symbol(Symbol::Comma)) {
+            if !self.sees(TokenMark::Symbol(Symbol::Comma)) {
                 return Ok(Texts { items });
             }
             self.take();
@@ -243,11 +243,11 @@ impl<'a> Parser<'a> {
     }
 }
 
-fn without_half(mark: Mark) -> Mark
+fn without_half(mark: TokenMark) -> TokenMark
     ensures { result ≡ readers.mark_without_half mark }
 {
     match mark {
-        Mark::Symbol(symbol) => Mark::Symbol(second_half(symbol)),
+        TokenMark::Symbol(symbol) => TokenMark::Symbol(second_half(symbol)),
         _ => mark,
     }
 }

@@ -9,7 +9,7 @@ ghost use Rattle.tp_parse.specs.declared.head.PrimaryHead.TheVariants.{Paired};
 ghost use Rattle.tp_parse.specs.declared.mark.TokenRole.TheVariants.{Ends};
 
 use crate::head::{Pair, PrimaryHead};
-use crate::mark::{Enclosure, Mark, Prefix, TokenRole};
+use crate::mark::{Enclosure, Prefix, TokenMark, TokenRole};
 use crate::operands::Operands;
 use crate::parser::Parser;
 use crate::phrases::{
@@ -156,7 +156,7 @@ impl Parser<'_> {
             self.new }
         ensures low { IfOk result (λ r. r.height ≤ room + 1) }
     {
-        let condition = self.part(alloc, CHOP, Mark::Word(Word::Then), room)?;
+        let condition = self.part(alloc, CHOP, TokenMark::Word(Word::Then), room)?;
         let first = self.phrase(alloc, CHOP, room)?;
         self.else_part(alloc, room, at, condition, first)
     }
@@ -178,7 +178,7 @@ impl Parser<'_> {
             self.new }
         ensures low { IfOk result (λ r. r.height ≤ room + 1) }
     {
-        if !self.sees(Mark::Word(Word::Else)) {
+        if !self.sees(TokenMark::Word(Word::Else)) {
             return of_two(alloc, at, TwoOperands::Choice, condition, first);
         }
         self.take();
@@ -189,7 +189,13 @@ impl Parser<'_> {
     /// A phrase, and the mark after it.
     #[cycle(phrase)]
     #[tactic(auto, unfolding(crate::specs::Reading::part))]
-    fn part(&mut self, alloc: Global, level: u8, close: Mark, room: u8) -> Result<Measured, Refusal>
+    fn part(
+        &mut self,
+        alloc: Global,
+        level: u8,
+        close: TokenMark,
+        room: u8,
+    ) -> Result<Measured, Refusal>
         requires { level ≤ chop_level }
         ensures reads { ReturnsReading seen (spec.part (spec.read room) room level close self.old)
             result self.new }
@@ -207,7 +213,7 @@ impl Parser<'_> {
         &mut self,
         alloc: Global,
         level: u8,
-        close: Mark,
+        close: TokenMark,
         room: u8,
     ) -> Result<Operands, Refusal>
         requires { level ≤ chop_level }
@@ -223,7 +229,7 @@ impl Parser<'_> {
             });
         }
         let first = self.phrase(alloc, level, room)?;
-        let all = self.others(alloc, level, Mark::Symbol(Symbol::Comma), room, first)?;
+        let all = self.others(alloc, level, TokenMark::Symbol(Symbol::Comma), room, first)?;
         self.expect(close)?;
         Ok(all)
     }
@@ -234,7 +240,7 @@ impl Parser<'_> {
         &mut self,
         alloc: Global,
         level: u8,
-        separator: Mark,
+        separator: TokenMark,
         room: u8,
         first: Measured,
     ) -> Result<Operands, Refusal>
@@ -356,7 +362,7 @@ impl Parser<'_> {
     {
         self.fits(room, left.height)?;
         self.take();
-        let index = self.part(alloc, CHOP, Mark::Symbol(Symbol::CloseSquare), room)?;
+        let index = self.part(alloc, CHOP, TokenMark::Symbol(Symbol::CloseSquare), room)?;
         of_two(alloc, at, TwoOperands::Index, left, index)
     }
 
@@ -376,7 +382,7 @@ impl Parser<'_> {
         ensures low { IfOk result (λ r. r.height ≤ room + 1) }
     {
         self.fits(room, left.height)?;
-        let all = self.others(alloc, level - 1, Mark::Word(Word::And), room, left)?;
+        let all = self.others(alloc, level - 1, TokenMark::Word(Word::And), room, left)?;
         Ok(of_chain(at, all))
     }
 
@@ -394,7 +400,7 @@ impl Parser<'_> {
 }
 
 /// The level at which the operator before the phrase stands, where it is no higher than `level`.
-fn start_level(level: u8, mark: Mark) -> u8
+fn start_level(level: u8, mark: TokenMark) -> u8
     ensures value { result ≡ spec.start_level level mark }
     ensures low { result ≤ level }
     ensures own { 0 < result → marks.before mark ≡ result }

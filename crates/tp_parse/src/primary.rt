@@ -5,7 +5,7 @@ ghost use Rattle.tp_parse.specs.Head as spec;
 ghost use Rattle.tp_parse.specs.Readers.{ReturnsReading};
 
 use crate::head::{Atom, Listed, Pair, PrimaryHead};
-use crate::mark::{Enclosure, Mark, Start};
+use crate::mark::{Enclosure, Start, TokenMark};
 use crate::parser::Parser;
 use crate::role::{before, start_of};
 use crate::stop::Refusal;
@@ -36,7 +36,7 @@ impl Parser<'_> {
             }
             Start::Form(form) => {
                 self.take();
-                self.expect(Mark::Symbol(Symbol::OpenRound))?;
+                self.expect(TokenMark::Symbol(Symbol::OpenRound))?;
                 Ok(PrimaryHead::Listed(Listed::Form(form)))
             }
             Start::Enclosed(enclosure) => Ok(self.taken(PrimaryHead::Enclosed(enclosure))),
@@ -48,7 +48,7 @@ impl Parser<'_> {
             Start::Exists => {
                 self.take();
                 let names = self.names(alloc)?;
-                self.expect(Mark::Symbol(Symbol::Colon))?;
+                self.expect(TokenMark::Symbol(Symbol::Colon))?;
                 Ok(PrimaryHead::Exists(names))
             }
         }
@@ -69,7 +69,7 @@ impl Parser<'_> {
         ensures { ReturnsReading (λ h. h) (spec.name_or_call self.old) result self.new }
     {
         let name = self.taken_name(alloc)?;
-        if self.sees(Mark::Symbol(Symbol::OpenRound)) {
+        if self.sees(TokenMark::Symbol(Symbol::OpenRound)) {
             self.take();
             Ok(PrimaryHead::Listed(Listed::Call(name)))
         } else {
@@ -84,7 +84,7 @@ impl Parser<'_> {
     {
         self.take();
         let name = self.lower(alloc)?;
-        self.expect(Mark::Symbol(Symbol::Less))?;
+        self.expect(TokenMark::Symbol(Symbol::Less))?;
         Ok(name)
     }
 
@@ -149,7 +149,7 @@ fn is_nothing(start: Start) -> bool
 
 /// Whether a phrase of the level may begin with such a token.
 #[tactic(auto, unfolding(crate::specs::Head::begins))]
-fn begins(level: u8, mark: Mark) -> bool
+fn begins(level: u8, mark: TokenMark) -> bool
     ensures { result ≡ spec.begins level mark }
 {
     let own = before(mark);
@@ -171,12 +171,12 @@ pub fn listed_level(listed: &Listed) -> u8
 }
 
 /// The mark after the operands.
-pub fn listed_close(listed: &Listed) -> Mark
+pub fn listed_close(listed: &Listed) -> TokenMark
     ensures { result ≡ marks.listed_close listed.now }
 {
     match listed {
-        Listed::List => Mark::Symbol(Symbol::Greater),
-        Listed::Form(_) | Listed::Call(_) => Mark::Symbol(Symbol::CloseRound),
+        Listed::List => TokenMark::Symbol(Symbol::Greater),
+        Listed::Form(_) | Listed::Call(_) => TokenMark::Symbol(Symbol::CloseRound),
     }
 }
 
@@ -189,24 +189,24 @@ pub fn enclosed_level(enclosure: Enclosure) -> u8
     }
 }
 
-pub fn enclosed_close(enclosure: Enclosure) -> Mark
+pub fn enclosed_close(enclosure: Enclosure) -> TokenMark
     ensures { result ≡ marks.enclosed_close enclosure }
 {
     match enclosure {
-        Enclosure::Round => Mark::Symbol(Symbol::CloseRound),
-        Enclosure::Curly => Mark::Symbol(Symbol::CloseCurly),
-        Enclosure::Size => Mark::Symbol(Symbol::Bar),
+        Enclosure::Round => TokenMark::Symbol(Symbol::CloseRound),
+        Enclosure::Curly => TokenMark::Symbol(Symbol::CloseCurly),
+        Enclosure::Size => TokenMark::Symbol(Symbol::Bar),
     }
 }
 
 /// The mark between the operands.
-pub fn middle(pair: &Pair) -> Mark
+pub fn middle(pair: &Pair) -> TokenMark
     ensures { result ≡ marks.middle pair.now }
 {
     match pair {
-        Pair::While => Mark::Word(Word::Do),
-        Pair::Repeat => Mark::Word(Word::Until),
-        Pair::For(_) => Mark::Word(Word::Do),
-        Pair::Forall(_) => Mark::Symbol(Symbol::Colon),
+        Pair::While => TokenMark::Word(Word::Do),
+        Pair::Repeat => TokenMark::Word(Word::Until),
+        Pair::For(_) => TokenMark::Word(Word::Do),
+        Pair::Forall(_) => TokenMark::Symbol(Symbol::Colon),
     }
 }

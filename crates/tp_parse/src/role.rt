@@ -2,25 +2,25 @@
 ghost use Rattle.std.specs.Prelude.{◌≡◌};
 ghost use Rattle.tp_parse.specs.Marks as spec;
 
-use crate::mark::{Enclosure, Mark, Prefix, Start, TokenRole};
+use crate::mark::{Enclosure, Prefix, Start, TokenMark, TokenRole};
 use tp_lex::{Kind, Symbol, Word};
 use tp_tree::level::{AND, INDEX, NOT, PREFIX, op_level};
 use tp_tree::{Bare, Form, Op};
 
-pub fn mark_of(kind: &Kind) -> Mark
+pub fn mark_of(kind: &Kind) -> TokenMark
     ensures { result ≡ spec.kind_mark kind.now }
 {
     match kind {
-        Kind::Upper(_) => Mark::Upper,
-        Kind::Lower(_) => Mark::Lower,
-        Kind::Number(_) => Mark::Number,
-        Kind::Word(word) => Mark::Word(*word),
-        Kind::Symbol(symbol) => Mark::Symbol(*symbol),
+        Kind::Upper(_) => TokenMark::Upper,
+        Kind::Lower(_) => TokenMark::Lower,
+        Kind::Number(_) => TokenMark::Number,
+        Kind::Word(word) => TokenMark::Word(*word),
+        Kind::Symbol(symbol) => TokenMark::Symbol(*symbol),
     }
 }
 
 #[tactic(auto, unfolding(crate::specs::Marks::same))]
-pub fn same(a: Mark, b: Mark) -> bool
+pub fn same(a: TokenMark, b: TokenMark) -> bool
     ensures { result ≡ spec.same a b }
 {
     a == b
@@ -50,19 +50,19 @@ pub fn second_half(symbol: Symbol) -> Symbol
 }
 
 /// The operator before an operand that the token is, if it is one.
-fn prefix_of(mark: Mark) -> Option<Prefix>
+fn prefix_of(mark: TokenMark) -> Option<Prefix>
     ensures { result ≡ spec.prefix_of mark }
 {
     match mark {
-        Mark::Word(Word::Not) => Some(Prefix::Not),
-        Mark::Word(Word::Next) => Some(Prefix::Next),
-        Mark::Symbol(Symbol::Minus) => Some(Prefix::Minus),
+        TokenMark::Word(Word::Not) => Some(Prefix::Not),
+        TokenMark::Word(Word::Next) => Some(Prefix::Next),
+        TokenMark::Symbol(Symbol::Minus) => Some(Prefix::Minus),
         _ => None,
     }
 }
 
 /// The level of an operator before its operand, or 0.
-pub fn before(mark: Mark) -> u8
+pub fn before(mark: TokenMark) -> u8
     ensures { result ≡ spec.before mark }
 {
     match prefix_of(mark) {
@@ -74,7 +74,7 @@ pub fn before(mark: Mark) -> u8
 
 /// The operator before an operand that the token is, where that is of this level.
 #[tactic(auto, unfolding(crate::specs::Marks::prefix_at))]
-pub fn prefix_at(level: u8, mark: Mark) -> Option<Prefix>
+pub fn prefix_at(level: u8, mark: TokenMark) -> Option<Prefix>
     ensures { result ≡ spec.prefix_at level mark }
 {
     if before(mark) == level {
@@ -84,36 +84,36 @@ pub fn prefix_at(level: u8, mark: Mark) -> Option<Prefix>
     }
 }
 
-pub fn role_of(mark: Mark) -> TokenRole
+pub fn role_of(mark: TokenMark) -> TokenRole
     ensures { result ≡ spec.role_of mark }
 {
     match mark {
-        Mark::Symbol(Symbol::Semicolon) => TokenRole::Infix(Op::Chop),
-        Mark::Word(Word::Proj) => TokenRole::Infix(Op::Proj),
-        Mark::Word(Word::Or) => TokenRole::Infix(Op::Or),
-        Mark::Word(Word::And) => TokenRole::Joins,
-        Mark::Symbol(Symbol::Equal) => TokenRole::Infix(Op::Equal),
-        Mark::Symbol(Symbol::Differs) => TokenRole::Infix(Op::Differs),
-        Mark::Symbol(Symbol::Less) => TokenRole::Infix(Op::Less),
-        Mark::Symbol(Symbol::LessEqual) => TokenRole::Infix(Op::LessEqual),
-        Mark::Symbol(Symbol::Greater) => TokenRole::Infix(Op::Greater),
-        Mark::Symbol(Symbol::GreaterEqual) => TokenRole::Infix(Op::GreaterEqual),
-        Mark::Word(Word::Gets) => TokenRole::Infix(Op::Gets),
-        Mark::Symbol(Symbol::Arrow) => TokenRole::Infix(Op::Arrow),
-        Mark::Symbol(Symbol::Becomes) => TokenRole::Infix(Op::Becomes),
-        Mark::Symbol(Symbol::Plus) => TokenRole::Infix(Op::Plus),
-        Mark::Symbol(Symbol::Minus) => TokenRole::Infix(Op::Minus),
-        Mark::Symbol(Symbol::Times) => TokenRole::Infix(Op::Times),
-        Mark::Word(Word::Div) => TokenRole::Infix(Op::Div),
-        Mark::Word(Word::Mod) => TokenRole::Infix(Op::Mod),
-        Mark::Symbol(Symbol::OpenSquare) => TokenRole::Opens,
+        TokenMark::Symbol(Symbol::Semicolon) => TokenRole::Infix(Op::Chop),
+        TokenMark::Word(Word::Proj) => TokenRole::Infix(Op::Proj),
+        TokenMark::Word(Word::Or) => TokenRole::Infix(Op::Or),
+        TokenMark::Word(Word::And) => TokenRole::Joins,
+        TokenMark::Symbol(Symbol::Equal) => TokenRole::Infix(Op::Equal),
+        TokenMark::Symbol(Symbol::Differs) => TokenRole::Infix(Op::Differs),
+        TokenMark::Symbol(Symbol::Less) => TokenRole::Infix(Op::Less),
+        TokenMark::Symbol(Symbol::LessEqual) => TokenRole::Infix(Op::LessEqual),
+        TokenMark::Symbol(Symbol::Greater) => TokenRole::Infix(Op::Greater),
+        TokenMark::Symbol(Symbol::GreaterEqual) => TokenRole::Infix(Op::GreaterEqual),
+        TokenMark::Word(Word::Gets) => TokenRole::Infix(Op::Gets),
+        TokenMark::Symbol(Symbol::Arrow) => TokenRole::Infix(Op::Arrow),
+        TokenMark::Symbol(Symbol::Becomes) => TokenRole::Infix(Op::Becomes),
+        TokenMark::Symbol(Symbol::Plus) => TokenRole::Infix(Op::Plus),
+        TokenMark::Symbol(Symbol::Minus) => TokenRole::Infix(Op::Minus),
+        TokenMark::Symbol(Symbol::Times) => TokenRole::Infix(Op::Times),
+        TokenMark::Word(Word::Div) => TokenRole::Infix(Op::Div),
+        TokenMark::Word(Word::Mod) => TokenRole::Infix(Op::Mod),
+        TokenMark::Symbol(Symbol::OpenSquare) => TokenRole::Opens,
         _ => TokenRole::Ends,
     }
 }
 
 /// What the token does at this level.
 #[tactic(auto, unfolding(crate::specs::Marks::role_at))]
-pub fn role_at(level: u8, mark: Mark) -> TokenRole
+pub fn role_at(level: u8, mark: TokenMark) -> TokenRole
     ensures { result ≡ spec.role_at level mark }
 {
     let role = role_of(mark);
@@ -126,16 +126,16 @@ pub fn role_at(level: u8, mark: Mark) -> TokenRole
     if own == level { role } else { TokenRole::Ends }
 }
 
-pub fn start_of(mark: Mark) -> Start
+pub fn start_of(mark: TokenMark) -> Start
     ensures { result ≡ spec.start_of mark }
 {
     match mark {
-        Mark::End => Start::Nothing,
-        Mark::Upper => Start::Name,
-        Mark::Lower => Start::NameOrCall,
-        Mark::Number => Start::Number,
-        Mark::Word(word) => word_start(word),
-        Mark::Symbol(symbol) => symbol_start(symbol),
+        TokenMark::End => Start::Nothing,
+        TokenMark::Upper => Start::Name,
+        TokenMark::Lower => Start::NameOrCall,
+        TokenMark::Number => Start::Number,
+        TokenMark::Word(word) => word_start(word),
+        TokenMark::Symbol(symbol) => symbol_start(symbol),
     }
 }
 

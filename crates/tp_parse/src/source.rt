@@ -12,7 +12,7 @@ ghost use Rattle.tp_parse.specs.PlaceLaws.{BlamesFirstInEachText};
 ghost use Rattle.tp_parse.specs.SpelledText.{ParsesPrinted};
 ghost use Rattle.tp_parse.specs.declared.refusal.ParseRefusal.TheVariants.{NoMemory};
 
-use crate::mark::Mark;
+use crate::mark::TokenMark;
 use crate::parser::Parser;
 use crate::refusal::ParseRefusal;
 use crate::stop::Refusal;
@@ -75,7 +75,7 @@ fn source(alloc: Global, tokens: &Tokens) -> Result<Source, Refusal>
 {
     let mut parser = Parser::new(&tokens.items);
     let definitions = parser.definitions(alloc)?;
-    parser.expect(Mark::Word(Word::Run))?;
+    parser.expect(TokenMark::Word(Word::Run))?;
     let main = parser.sentence(alloc)?;
     if parser.remaining() > 0 {
         return Err(parser.refusal());
@@ -90,7 +90,7 @@ impl Parser<'_> {
         ensures { ReturnsReading phrase_tree (spec.sentence self.old) result self.new }
     {
         let read = self.phrase(alloc, CHOP, MAX_HEIGHT)?;
-        self.expect(Mark::Symbol(Symbol::Stop))?;
+        self.expect(TokenMark::Symbol(Symbol::Stop))?;
         Ok(read.phrase)
     }
 
@@ -99,7 +99,7 @@ impl Parser<'_> {
     fn parameters(&mut self, alloc: Global) -> Result<Texts, Refusal>
         ensures { ReturnsReading (λ xs. xs) (spec.parameters self.old) result self.new }
     {
-        let close = Mark::Symbol(Symbol::CloseRound);
+        let close = TokenMark::Symbol(Symbol::CloseRound);
         if self.sees(close) {
             self.take();
             return Ok(Texts {
@@ -119,9 +119,9 @@ impl Parser<'_> {
         let at = self.from();
         self.take();
         let name = self.lower(alloc)?;
-        self.expect(Mark::Symbol(Symbol::OpenRound))?;
+        self.expect(TokenMark::Symbol(Symbol::OpenRound))?;
         let parameters = self.parameters(alloc)?;
-        self.expect(Mark::Symbol(Symbol::Equal))?;
+        self.expect(TokenMark::Symbol(Symbol::Equal))?;
         let body = self.sentence(alloc)?;
         Ok(Definition {
             name,
@@ -137,7 +137,7 @@ impl Parser<'_> {
     {
         let mut items = Vec::new(alloc);
         for _turn in 0..self.remaining() {
-            if !self.sees(Mark::Word(Word::Define)) {
+            if !self.sees(TokenMark::Word(Word::Define)) {
                 return Ok(Definitions { items });
             }
             items.push(self.definition(alloc)?)?;

@@ -16,7 +16,7 @@ use Rattle.tp_slots.specs.Edit.{edited_entries, one_place, one_mark, Follows}
 use Rattle.tp_slots.specs.Places.{holder_at, HeldBy, HoldsByNumber, AreHeld}
 use Rattle.tp_slots.specs.Lives.{has_own, leads_to, lives_in, HasOwn}
 use Rattle.tp_slots.specs.Flags.{Flags, FlagsAreRight, risen_by, FlagHolds, rises_what, FlagsFollow}
-use Rattle.tp_slots.specs.Kept.{HasNumbers, IsShaped, IsQuiet}
+use Rattle.tp_slots.specs.Kept.{IsNumberedOnce, IsShaped, IsQuiet}
 use Rattle.tp_slots.specs.Row.{slots_in, begun, stepped, held_after}
 use Rattle.tp_slots.specs.Threads.{after_at, AreLinked, IsLinked, AreLast, AreThreaded, afters_then}
 use Rattle.tp_slots.proofs.Read.{region_edited}
@@ -114,7 +114,7 @@ module _ (s : Slots) (hs : List ℕ) (t : ℕ) (m : Option Side) (inner outs : L
       let b = step.regions x in
       omega (arith, a, b)
 
-  numbers_then : HasNumbers z
+  numbers_then : IsNumberedOnce z
   numbers_then = record {
     items = subst (λ c. AreNumbers c (item_numbers (entries_at z 0))) (sym count_then)
         (once_more n (length inner + length outs) (item_numbers (entries_at s 0)) (item_numbers (entries_at z 0)) shape.numbers.items (λ x.

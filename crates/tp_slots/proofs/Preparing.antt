@@ -7,7 +7,7 @@ use Rattle.tp_slots.specs.Prepared.{IsPrepared}
 use Rattle.tp_slots.specs.Read.{holders_of, region_holders, slot_of, slot_whats, slots_of, region_slot_of}
 use Rattle.tp_slots.specs.Reductions.{AreBare}
 use Rattle.tp_slots.specs.Row.{AllBelow, begun, held_after, hold_all}
-use Rattle.tp_slots.specs.declared.put.News.{News}
+use Rattle.tp_slots.specs.declared.put.NewParts.{NewParts}
 use Rattle.tp_slots.specs.declared.scene.Scene.{Scene}
 use Rattle.tp_slots.proofs.Lists.{all_below, begun_count, hold_bare}
 
@@ -16,7 +16,7 @@ pub unset_same : (n c : ℕ) → map (λ x. false) (begun n c) ≡ unset c
 unset_same n zero = refl
 unset_same n (suc c) = refl
 
-module _ (t : ℕ) (inner outs : List plain.What) (s : Scene) (news : News) (ready : IsPrepared t inner outs s news) where
+module _ (t : ℕ) (inner outs : List plain.What) (s : Scene) (news : NewParts) (ready : IsPrepared t inner outs s news) where
   pub prepared_below : AreBare inner → AllBelow (length s.regions.items + length (begun 0 (length inner))) outs → AllBelow (length s.regions.items + length news.regions.items) (slot_whats news.slots.items)
   prepared_below bare below =
       let regions = length s.regions.items in

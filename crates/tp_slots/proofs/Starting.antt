@@ -7,7 +7,7 @@ use Rattle.tp_slots.specs.Plain.{bare, Slots, slot_at, region_slot, AreIn, WhatF
 use Rattle.tp_slots.specs.Places.{HeldBy, AreHeld}
 use Rattle.tp_slots.specs.Lives.{HasOwn}
 use Rattle.tp_slots.specs.Flags.{FlagsAreRight, flags_in}
-use Rattle.tp_slots.specs.Kept.{HasNumbers, IsShaped, IsQuiet}
+use Rattle.tp_slots.specs.Kept.{IsNumberedOnce, IsShaped, IsQuiet}
 use Rattle.tp_slots.specs.Reductions.{begins_with}
 
 module _ (f : FormulaTree) (env : Bindings) where
@@ -28,7 +28,7 @@ module _ (f : FormulaTree) (env : Bindings) where
       at zero e = (omega arith, tt)
       at (suc n) e = absurd (omega (arith, e))
 
-  numbers : HasNumbers first
+  numbers : IsNumberedOnce first
   numbers = record { items = (omega arith, tt, tt); regions = (omega arith, tt, tt) }
 
   own : HasOwn first

@@ -16,7 +16,7 @@ use Rattle.tp_slots.specs.Read.{slots_of, scene_of, afters_of, holders_of, ends_
 use Rattle.tp_slots.specs.declared.scene.Scene.{Scene}
 
 -- no number stands twice
-pub record HasNumbers (s : Slots) : Type 0 where
+pub record IsNumberedOnce (s : Slots) : Type 0 where
   pub items : AreNumbers (length s.slots) (item_numbers (entries_at s 0))
   pub regions : AreNumbers (length s.regions) (0 ∷ region_numbers (entries_at s 0))
 
@@ -24,7 +24,7 @@ pub record HasNumbers (s : Slots) : Type 0 where
 -- knows what holds it.
 pub record IsShaped (s : Slots) (holders : List ℕ) : Type 0 where
   pub ordered : IsOrdered s
-  pub numbers : HasNumbers s
+  pub numbers : IsNumberedOnce s
   pub own : HasOwn s
   pub held : AreHeld s holders
 

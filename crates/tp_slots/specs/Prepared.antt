@@ -6,12 +6,12 @@ use Rattle.tp_slots.specs.Kept.{unset}
 use Rattle.tp_slots.specs.Row.{begun, slots_in}
 use Rattle.tp_slots.specs.Threads.{after_at, links, nothing_after}
 use Rattle.tp_slots.specs.Read.{afters_of, all_slots, item_home, region_ends, region_goes, region_holders, region_slots, slot_afters, slot_whats}
-use Rattle.tp_slots.specs.declared.put.News.{News}
+use Rattle.tp_slots.specs.declared.put.NewParts.{NewParts}
 use Rattle.tp_slots.specs.declared.scene.Scene.{Scene}
 
 -- The items `outs` are to stand in place of the item t, and the items `inner` in a new region, if
 -- there are any. There is room for them.
-pub record IsPrepared (t : ℕ) (inner outs : List What) (s : Scene) (news : News) : Type 0 where
+pub record IsPrepared (t : ℕ) (inner outs : List What) (s : Scene) (news : NewParts) : Type 0 where
   pub numbers : range_with_len news.from news.count
       ≡ range_with_len (length s.slots.items + length inner) (length outs)
   pub slots : all_slots news.slots.items

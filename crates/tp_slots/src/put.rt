@@ -172,7 +172,7 @@ fn hold_news(list: &mut [Region], first: u64, news: &[Slot])
 
 /// What is put in an item's place: `count` items with the numbers from `from` on; new slots, these items' among them; new regions.
 #[derive(Drop)]
-pub struct News {
+pub struct NewParts {
     pub from: u64,
     pub count: u64,
     pub slots: Vec<Slot>,
@@ -180,7 +180,7 @@ pub struct News {
 }
 
 // Puts the news in place of an item, whose region is marked. There is room.
-fn commit(scene: &mut Scene, item: u64, side: Option<Side>, news: News)
+fn commit(scene: &mut Scene, item: u64, side: Option<Side>, news: NewParts)
     requires item { item < length scene.old.slots.items }
     requires home { home_in (all_slots scene.old.slots.items) item
         < length scene.old.regions.items }
@@ -222,7 +222,7 @@ fn prepare(
     item: u64,
     inner: Vec<What>,
     outs: Vec<What>,
-) -> Result<News, NoMemory>
+) -> Result<NewParts, NoMemory>
     requires { item < length scene.old.slots.items }
     ensures prepared { IfOk result
         (IsPrepared item (whats_of inner.items) (whats_of outs.items) scene.new) }
@@ -241,7 +241,7 @@ fn prepare(
     push_linked(&mut slots, home, from, end, outs)?;
     scene.slots.reserve(slots.len())?;
     scene.regions.reserve(regions.len())?;
-    Ok(News {
+    Ok(NewParts {
         from,
         count,
         slots,

@@ -8,7 +8,7 @@ use Rattle.tp_scene.specs.Advance.{items_in, regions_in, numbered, due, advanced
 use Rattle.tp_slots.specs.Plain.{Slot, RegionSlot, Slots, slot_at, region_slot, head_at, other_head, entries_at, scene_in, has_second, AreIn, IsLive, IsOrdered}
 use Rattle.tp_slots.specs.Places.{AreHeld}
 use Rattle.tp_slots.specs.Flags.{flags_in}
-use Rattle.tp_slots.specs.Kept.{HasNumbers, IsShaped, IsWellKept}
+use Rattle.tp_slots.specs.Kept.{IsNumberedOnce, IsShaped, IsWellKept}
 use Rattle.tp_slots.specs.Looks.{LooksAreRight}
 use Rattle.tp_slots.specs.Own.{own_ids}
 use Rattle.tp_slots.specs.Shown.{AreShown}
@@ -150,7 +150,7 @@ module _ (fs : Entries) (plain : AreUnmarked fs) where
       roots zero l = own_stored ss rs 0 es all_stored
       roots (suc r) l = (held_right (suc r) (omega arith) l).roots
 
-  numbers : HasNumbers z
+  numbers : IsNumberedOnce z
   numbers = record {
     items = (let c = item_count in let e = root_read in subst (λ n. AreNumbers n (item_numbers (entries_at z 0))) (sym c) (subst (λ xs. AreNumbers (items_in fs) (item_numbers xs)) (sym e) (items_once fs)));
     regions = (let c = slot_count in let e = root_read in subst (λ n. AreNumbers n (0 ∷ region_numbers (entries_at z 0))) (sym c) (subst (λ xs. AreNumbers (1 + regions_in fs) (0 ∷ region_numbers xs)) (sym e) (regions_once fs)));

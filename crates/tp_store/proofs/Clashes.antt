@@ -9,7 +9,7 @@ use Rattle.tp_value.specs.declared.path.Fact.{Fact}
 use Rattle.tp_store.specs.Facts.{same_shape, has_item, clash, is_excluded}
 use Rattle.tp_store.specs.Known.{NoClash, addition, adds, first_clash}
 use Rattle.tp_store.specs.FactMap.{AreOf, AreOfKind, facts_asked}
-use Rattle.tp_store.specs.declared.copies.Which.TheVariants.{Of}
+use Rattle.tp_store.specs.declared.copies.AskedVariables.TheVariants.{Of}
 use Rattle.tp_store.specs.declared.nodes.Nodes.{Nodes}
 use Rattle.std.specs.Map.{values_of}
 use Rattle.tp_store.specs.declared.nodes.Edge.{Edge}

@@ -9,7 +9,7 @@ use Rattle.tp_value.specs.declared.path.Fact.{Fact}
 use Rattle.tp_store.specs.Facts.{same_path, clash, kept_shape, fact}
 use Rattle.tp_store.specs.Known.{NoClash, clashes_with_some}
 use Rattle.tp_store.specs.FactMap.{is_among, facts_asked}
-use Rattle.tp_store.specs.declared.copies.Which.{Which}
+use Rattle.tp_store.specs.declared.copies.AskedVariables.{AskedVariables}
 use Rattle.tp_store.specs.declared.nodes.Edge.{Edge}
 use Rattle.tp_store.specs.declared.nodes.Node.{Node}
 use Rattle.tp_store.specs.Nodes.{bare_node, same_edge, child, node_or_none, node_from, routes, IsRooted, path_along, path_of, way_of, fact_where, facts_along, shape_among, shape_found, beyond_among, with_node, with_shape_at}
@@ -259,10 +259,10 @@ facts_end b (r ∷ rs) [] (suc i) l = none_left (drop i rs)
 facts_end b (r ∷ rs) (n ∷ ns) (suc i) l = facts_end b rs ns i (omega arith)
 
 -- a fact that is asked for, and one that isn't
-pub asked_for : (which : Which) (b : Bool) (r : List ℕ) (sh : Shape) (fs : List Fact) → is_among which (path_of b r).var.number ≡ true
+pub asked_for : (which : AskedVariables) (b : Bool) (r : List ℕ) (sh : Shape) (fs : List Fact) → is_among which (path_of b r).var.number ≡ true
     → facts_asked which (fact_where b r (Some sh) ++ fs) ≡ fact (path_of b r) sh ∷ facts_asked which fs
 asked_for which b r sh fs h = ap (λ t. cond t (fact (path_of b r) sh ∷ facts_asked which fs) (facts_asked which fs)) h
 
-pub not_asked_for : (which : Which) (b : Bool) (r : List ℕ) (sh : Shape) (fs : List Fact) → is_among which (path_of b r).var.number ≡ false
+pub not_asked_for : (which : AskedVariables) (b : Bool) (r : List ℕ) (sh : Shape) (fs : List Fact) → is_among which (path_of b r).var.number ≡ false
     → facts_asked which (fact_where b r (Some sh) ++ fs) ≡ facts_asked which fs
 not_asked_for which b r sh fs h = ap (λ t. cond t (fact (path_of b r) sh ∷ facts_asked which fs) (facts_asked which fs)) h

@@ -9,7 +9,7 @@ use Rattle.tp_value.specs.declared.value.Shape.{Shape}
 use Rattle.tp_value.specs.declared.path.VarId.{VarId}
 use Rattle.tp_value.specs.declared.path.Path.{Path}
 use Rattle.tp_value.specs.declared.path.Fact.{Fact}
-use Rattle.tp_store.specs.declared.copies.Which.TheVariants.{Of}
+use Rattle.tp_store.specs.declared.copies.AskedVariables.TheVariants.{Of}
 use Rattle.tp_store.specs.declared.nodes.Nodes.{Nodes}
 use Rattle.tp_store.specs.Facts.{same_variable, same_indices, same_path, kept_shape, item_path, fact}
 use Rattle.tp_store.specs.Known.{NoClash, facts_below}

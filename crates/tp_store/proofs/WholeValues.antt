@@ -16,7 +16,7 @@ use Rattle.tp_store.specs.Facts.{same_path, clash, fact}
 use Rattle.tp_store.specs.Known.{NoClash, addition, adds}
 use Rattle.tp_store.specs.Changes.{HaveSameShapes}
 use Rattle.tp_store.specs.FactMap.{AreOf, AreOfKind, is_among, facts_asked}
-use Rattle.tp_store.specs.declared.copies.Which.{Which}
+use Rattle.tp_store.specs.declared.copies.AskedVariables.{AskedVariables}
 use Rattle.tp_store.specs.Nodes.{path_along}
 use Rattle.tp_store.specs.Wholes.{facts_of_value, whole_facts, whole_value, AreOfDifferent, AreOfOthers, AreWholes}
 use Rattle.tp_store.proofs.Paths.{same_truth-decides, same_path-decides}
@@ -286,36 +286,36 @@ whole_next b (e ∷ es) (suc i) n v h =
     let past : suc (i + 1) ≡ suc i + 1 = omega arith in
     whole_next b es i n v h ∙ ap (λ k. facts_of_value (variable_of b n) (tree v.value) ++ whole_facts b (drop k (e ∷ es))) past
 
-asked_all : (which : Which) (x : VarId) (fs : List Fact) → AreOf x fs → is_among which x.number ≡ true → facts_asked which fs ≡ fs
+asked_all : (which : AskedVariables) (x : VarId) (fs : List Fact) → AreOf x fs → is_among which x.number ≡ true → facts_asked which fs ≡ fs
 asked_all which x [] a h = refl
 asked_all which x (f ∷ fs) a h =
     let here : is_among which f.path.var.number ≡ true = ap (λ (y : VarId). is_among which y.number) a.0 ∙ h in
     ap (λ c. cond c (f ∷ facts_asked which fs) (facts_asked which fs)) here ∙ ap (λ gs. f ∷ gs) (asked_all which x fs a.1 h)
 
-asked_none : (which : Which) (x : VarId) (fs : List Fact) → AreOf x fs → is_among which x.number ≡ false → facts_asked which fs ≡ []
+asked_none : (which : AskedVariables) (x : VarId) (fs : List Fact) → AreOf x fs → is_among which x.number ≡ false → facts_asked which fs ≡ []
 asked_none which x [] a h = refl
 asked_none which x (f ∷ fs) a h =
     let here : is_among which f.path.var.number ≡ false = ap (λ (y : VarId). is_among which y.number) a.0 ∙ h in
     ap (λ c. cond c (f ∷ facts_asked which fs) (facts_asked which fs)) here ∙ asked_none which x fs a.1 h
 
-asked_append : (which : Which) (xs ys : List Fact) → facts_asked which (xs ++ ys) ≡ facts_asked which xs ++ facts_asked which ys
+asked_append : (which : AskedVariables) (xs ys : List Fact) → facts_asked which (xs ++ ys) ≡ facts_asked which xs ++ facts_asked which ys
 asked_append which xs ys = filter-append (λ (f : Fact). is_among which f.path.var.number) xs ys
 
-pub next_asked : (which : Which) (b : Bool) (es : List (ℕ × Rc Value Global)) (i n : ℕ) (v : Rc Value Global) → slice_get es i ≡ Some (n, v) → is_among which n ≡ true
+pub next_asked : (which : AskedVariables) (b : Bool) (es : List (ℕ × Rc Value Global)) (i n : ℕ) (v : Rc Value Global) → slice_get es i ≡ Some (n, v) → is_among which n ≡ true
     → facts_asked which (whole_facts b (drop i es)) ≡ facts_of_value (variable_of b n) (tree v.value) ++ facts_asked which (whole_facts b (drop (i + 1) es))
 next_asked which b es i n v h t =
     let x = variable_of b n in
     ap (facts_asked which) (whole_next b es i n v h) ∙ asked_append which (facts_of_value x (tree v.value)) (whole_facts b (drop (i + 1) es))
     ∙ ap (λ fs. fs ++ facts_asked which (whole_facts b (drop (i + 1) es))) (asked_all which x (facts_of_value x (tree v.value)) (value_of_variable (path_along x []) (tree v.value)) t)
 
-pub next_not_asked : (which : Which) (b : Bool) (es : List (ℕ × Rc Value Global)) (i n : ℕ) (v : Rc Value Global) → slice_get es i ≡ Some (n, v) → is_among which n ≡ false
+pub next_not_asked : (which : AskedVariables) (b : Bool) (es : List (ℕ × Rc Value Global)) (i n : ℕ) (v : Rc Value Global) → slice_get es i ≡ Some (n, v) → is_among which n ≡ false
     → facts_asked which (whole_facts b (drop i es)) ≡ facts_asked which (whole_facts b (drop (i + 1) es))
 next_not_asked which b es i n v h t =
     let x = variable_of b n in
     ap (facts_asked which) (whole_next b es i n v h) ∙ asked_append which (facts_of_value x (tree v.value)) (whole_facts b (drop (i + 1) es))
     ∙ ap (λ fs. fs ++ facts_asked which (whole_facts b (drop (i + 1) es))) (asked_none which x (facts_of_value x (tree v.value)) (value_of_variable (path_along x []) (tree v.value)) t)
 
-pub none_next : (which : Which) (b : Bool) (es : List (ℕ × Rc Value Global)) (i : ℕ) → i < length es → slice_get es i ≡ None
+pub none_next : (which : AskedVariables) (b : Bool) (es : List (ℕ × Rc Value Global)) (i : ℕ) → i < length es → slice_get es i ≡ None
     → facts_asked which (whole_facts b (drop i es)) ≡ facts_asked which (whole_facts b (drop (i + 1) es))
 none_next which b [] i l h = absurd (omega (arith, l))
 none_next which b (e ∷ es) zero l h = absurd (cc h)
@@ -329,7 +329,7 @@ none_left [] (suc i) h = refl
 none_left (e ∷ es) zero h = absurd (omega (arith, h))
 none_left (e ∷ es) (suc i) h = none_left es i (omega (arith, h))
 
-pub all_asked : (which : Which) (b : Bool) (es : List (ℕ × Rc Value Global)) (i : ℕ) (out all : List Fact) → length es ≤ i → out ++ facts_asked which (whole_facts b (drop i es)) ≡ all → out ≡ all
+pub all_asked : (which : AskedVariables) (b : Bool) (es : List (ℕ × Rc Value Global)) (i : ℕ) (out all : List Fact) → length es ≤ i → out ++ facts_asked which (whole_facts b (drop i es)) ≡ all → out ≡ all
 all_asked which b es i out all h e = sym (append-nil out) ∙ sym (ap (λ xs. out ++ facts_asked which (whole_facts b xs)) (none_left es i h)) ∙ e
 
 pub both_others : (n : ℕ) (xs ys : List Fact) → AreOfOthers n xs → AreOfOthers n ys → AreOfOthers n (xs ++ ys)

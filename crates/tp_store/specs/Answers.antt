@@ -11,8 +11,8 @@ use Rattle.tp_store.specs.declared.note.Noted.TheVariants.{New, Kept}
 use Rattle.tp_store.specs.declared.note.Noted.TheVariants as noted
 use Rattle.tp_store.specs.declared.full.Known.{Known}
 use Rattle.tp_store.specs.declared.full.Known.TheVariants.{Absent, Open, TooLong, Value}
-use Rattle.tp_store.specs.declared.full.Found.{Found}
-use Rattle.tp_store.specs.declared.full.Found.TheVariants as found
+use Rattle.tp_store.specs.declared.full.WholeFound.{WholeFound}
+use Rattle.tp_store.specs.declared.full.WholeFound.TheVariants as found
 use Rattle.tp_store.specs.declared.add.AddRefusal.{AddRefusal}
 use Rattle.tp_store.specs.declared.add.AddRefusal.TheVariants.{Clash, NoMemory}
 
@@ -22,7 +22,7 @@ full_of (Open p) = undecided p
 full_of TooLong = too_long
 full_of (Value v) = known.value (tree v)
 
-abbrev pub whole_of : Found → Whole
+abbrev pub whole_of : WholeFound → Whole
 whole_of (found.Whole v) = known.known (tree v)
 whole_of (found.Open p) = open_at p
 

@@ -7,8 +7,8 @@ use Rattle.tp_value.specs.declared.path.Fact.{Fact}
 use Rattle.tp_value.specs.declared.value.Shape.TheVariants.{Num, Truth, Items}
 use Rattle.tp_store.specs.Facts.{has_item, kept_shape, same_variable}
 use Rattle.tp_store.specs.Known.{first_clash}
-use Rattle.tp_store.specs.declared.copies.Which.{Which}
-use Rattle.tp_store.specs.declared.copies.Which.TheVariants.{Below, Of}
+use Rattle.tp_store.specs.declared.copies.AskedVariables.{AskedVariables}
+use Rattle.tp_store.specs.declared.copies.AskedVariables.TheVariants.{Below, Of}
 
 -- a shape is there, and has no item with this index
 abbrev pub lacks_item : Option Shape → ℕ → Bool
@@ -55,11 +55,11 @@ pub record IsNewFact (kept : List Fact) (f : Fact) : Type 0 where
   pub apart : first_clash kept f ≡ None
 
 -- the variables whose facts are asked for: those below a number, or that with one
-abbrev pub is_among : Which → ℕ → Bool
+abbrev pub is_among : AskedVariables → ℕ → Bool
 is_among (Below n) k = nat_lt k n
 is_among (Of n) k = eqb k n
 
-abbrev pub facts_asked : Which → List Fact → List Fact
+abbrev pub facts_asked : AskedVariables → List Fact → List Fact
 facts_asked which = filter (λ f. is_among which f.path.var.number)
 
 -- the second indices are the first ones, or go on from them

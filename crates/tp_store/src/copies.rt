@@ -9,19 +9,19 @@ use tp_value::{Fact, NoMemory};
 
 /// Which variables' facts are asked for: of those below a number, or of that with one.
 #[derive(Clone, Copy, Debug, PartialEq, Eq)]
-pub enum Which {
+pub enum AskedVariables {
     Below(u64),
     Of(u64),
 }
 
-impl Which {
+impl AskedVariables {
     /// Whether the facts of the variable with that number are asked for.
     pub fn has(self, number: u64) -> bool
         ensures { result ≡ is_among self number }
     {
         match self {
-            Which::Below(end) => number < end,
-            Which::Of(one) => number == one,
+            AskedVariables::Below(end) => number < end,
+            AskedVariables::Of(one) => number == one,
         }
     }
 }
@@ -31,7 +31,7 @@ pub fn copy_facts(
     alloc: Global,
     lasting: bool,
     nodes: &Nodes,
-    which: Which,
+    which: AskedVariables,
     facts: &mut Vec<Fact>,
 ) -> Result<(), NoMemory>
     requires { IsTree nodes.now }

@@ -16,8 +16,8 @@ ghost use Rattle.std.specs.declared.alloc.Global.{Global};
 ghost use Rattle.tp_value.specs.declared.value.Value.{Value as ValueSeen};
 
 use crate::clash::{clashes, is_earlier};
-use crate::copies::{Which, copy_facts};
-use crate::full::{Found, item_path, open, whole_at};
+use crate::copies::{AskedVariables, copy_facts};
+use crate::full::{WholeFound, item_path, open, whole_at};
 use crate::judge::judge_in;
 use crate::keeping::{keep_facts, keep_shape};
 use crate::nodes::Nodes;
@@ -275,7 +275,7 @@ impl FactMap {
     }
 
     // The whole value at the path, or the first path of it without a shape, by all items from the first on.
-    fn whole_by_items(&self, alloc: Global, path: &Path) -> Result<Found, NoMemory>
+    fn whole_by_items(&self, alloc: Global, path: &Path) -> Result<WholeFound, NoMemory>
         ensures { IfOk result (λ found. whole_of found
             ≡ whole (suc (deepest self.now.facts)) self.now.facts path.now) }
     {
@@ -290,7 +290,7 @@ impl FactMap {
     }
 
     /// The whole value at the path, or the first path of it without a shape.
-    pub fn whole(&self, alloc: Global, path: &Path) -> Result<Found, NoMemory>
+    pub fn whole(&self, alloc: Global, path: &Path) -> Result<WholeFound, NoMemory>
         ensures { IfOk result (λ found. whole_of found
             ≡ whole (suc (deepest self.now.facts)) self.now.facts path.now) }
     {
@@ -298,7 +298,7 @@ impl FactMap {
         if self.depth > 0 {
             if let Some(index) = self.open_item(path) {
                 let inner = item_path(path, index)?;
-                return Ok(Found::Open(inner));
+                return Ok(WholeFound::Open(inner));
             }
         }
         self.whole_by_items(alloc, path)
@@ -350,7 +350,7 @@ impl FactMap {
             return Ok(None);
         }
         let mut facts = Vec::new(alloc);
-        let of = Which::Of(fact.path.var.number);
+        let of = AskedVariables::Of(fact.path.var.number);
         copy_facts(alloc, self.lasting, &self.nodes, of, &mut facts)?;
         let Some(first) = find_clash(facts.as_slice(), fact) else {
             return Ok(None);

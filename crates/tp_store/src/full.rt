@@ -32,7 +32,7 @@ pub enum Known {
 
 /// The whole value, or the first path without a shape.
 #[derive(Drop)]
-pub enum Found {
+pub enum WholeFound {
     Whole(Value),
     Open(Path),
 }
@@ -57,11 +57,11 @@ pub fn go_to(inner: &mut Path, index: u32)
 }
 
 /// The path is the first one without a shape.
-pub fn open(path: &Path) -> Result<Found, NoMemory>
-    ensures { IfOk result (λ found. found ≡ Found.Open path.now) }
+pub fn open(path: &Path) -> Result<WholeFound, NoMemory>
+    ensures { IfOk result (λ found. found ≡ WholeFound.Open path.now) }
 {
     let path = path.copy()?;
-    Ok(Found::Open(path))
+    Ok(WholeFound::Open(path))
 }
 
 // The items of the list at the path, of which there are so many; the path leads to the node, which becomes the last that was come to.
@@ -73,7 +73,7 @@ fn items_at(
     count: u32,
     deeper: u64,
     node: &mut u64,
-) -> Result<Found, NoMemory>
+) -> Result<WholeFound, NoMemory>
     requires tree { IsTree nodes.now }
     requires way { node_from (edges_in nodes.now) (way_of path.now) 0 ≡ Some node.old }
     ensures { IfOk result (λ found. whole_of found
@@ -87,15 +87,15 @@ fn items_at(
     for k in 0..count {
         go_to(&mut inner, k);
         let Some(item) = nodes.child_behind(*node, list, u64::from(k)) else {
-            return Ok(Found::Open(inner));
+            return Ok(WholeFound::Open(inner));
         };
         *node = item;
         match whole_at(alloc, nodes, &inner, deeper, node)? {
-            Found::Whole(v) => items.push(v)?,
-            Found::Open(q) => return Ok(Found::Open(q)),
+            WholeFound::Whole(v) => items.push(v)?,
+            WholeFound::Open(q) => return Ok(WholeFound::Open(q)),
         }
     }
-    Ok(Found::Whole(Value::List(Items { items })))
+    Ok(WholeFound::Whole(Value::List(Items { items })))
 }
 
 /// The whole value at the path, where no path of the tree has as many indices more. The path leads to the node, which becomes the last that
@@ -107,7 +107,7 @@ pub fn whole_at(
     path: &Path,
     deeper: u64,
     node: &mut u64,
-) -> Result<Found, NoMemory>
+) -> Result<WholeFound, NoMemory>
     requires tree { IsTree nodes.now }
     requires way { node_from (edges_in nodes.now) (way_of path.now) 0 ≡ Some node.old }
     ensures { IfOk result (λ found. whole_of found
@@ -118,8 +118,8 @@ pub fn whole_at(
         return open(path);
     }
     match nodes.shape(*node) {
-        Some(Shape::Num(n)) => Ok(Found::Whole(Value::Num(n))),
-        Some(Shape::Truth(b)) => Ok(Found::Whole(Value::Truth(b))),
+        Some(Shape::Num(n)) => Ok(WholeFound::Whole(Value::Num(n))),
+        Some(Shape::Truth(b)) => Ok(WholeFound::Whole(Value::Truth(b))),
         Some(Shape::Items(count)) => items_at(alloc, nodes, path, count, deeper - 1, node),
         None => open(path),
     }
@@ -149,8 +149,8 @@ pub fn full_in(alloc: Global, facts: &FactMap, path: &Path) -> Result<Known, NoM
         return Ok(Known::Absent);
     }
     match facts.whole(alloc, path)? {
-        Found::Open(q) => Ok(Known::Open(q)),
-        Found::Whole(v) => {
+        WholeFound::Open(q) => Ok(Known::Open(q)),
+        WholeFound::Whole(v) => {
             if is_within_list_limit(&v) {
                 Ok(Known::Value(v))
             } else {

@@ -2,13 +2,13 @@
 ghost use Rattle.std.specs.Prelude.{◌≡◌, ◌+◌, ◌++◌, ℕ, Some, OnOk};
 ghost use Rattle.tp_value.specs.declared.path.Path.{Path as PathSeen};
 ghost use Rattle.tp_store.specs.Facts.{item_path};
-ghost use Rattle.tp_store.specs.declared.copies.Which.{Which as WhichSeen};
+ghost use Rattle.tp_store.specs.declared.copies.AskedVariables.{AskedVariables as WhichSeen};
 ghost use Rattle.tp_store.specs.Known.{NoClash, facts_below};
 ghost use Rattle.tp_store.specs.Changes.{HasAppended};
 ghost use Rattle.tp_store.specs.FactMap.{facts_asked, facts_from};
 ghost use Rattle.tp_store.specs.Nodes.{edges_in, fact_where, facts_in_tree, node_from, way_of, IsTree};
 
-use crate::copies::{Which, copy_facts};
+use crate::copies::{AskedVariables, copy_facts};
 use crate::nodes::Nodes;
 use std::alloc::Global;
 use tp_value::{Fact, Indices, NoMemory, Path, Shape, VarId};
@@ -171,7 +171,13 @@ pub fn copy_below(
             facts.append(&mut found)?;
             Ok(())
         }
-        Err(WalkRefusal::Sparse) => copy_facts(alloc, lasting, nodes, Which::Below(below), facts),
+        Err(WalkRefusal::Sparse) => copy_facts(
+            alloc,
+            lasting,
+            nodes,
+            AskedVariables::Below(below),
+            facts,
+        ),
         Err(WalkRefusal::NoMemory) => Err(NoMemory),
     }
 }

@@ -1,6 +1,6 @@
 use Rattle.std.proofs.Common.{refl, ap, sym, ◌∙◌, ◌≡◌, Bool, true, false, cond, not}
 use Rattle.tp_value.specs.Read.{tree}
-use Rattle.tp_inputs.specs.declared.fault.Fault.TheVariants.{Twice}
+use Rattle.tp_inputs.specs.declared.fault.LineFault.TheVariants.{Twice}
 use Rattle.tp_inputs.specs.FirstPart.{Blank, Given, Faulty}
 use Rattle.tp_inputs.specs.Table.{blank, given}
 use Rattle.tp_inputs.specs.Model.{table_of}

@@ -3,7 +3,7 @@ use Rattle.std.proofs.lemmas.Bool.{lt-ltb, le-ltb}
 use Rattle.tp_value.specs.Read.{tree}
 use Rattle.tp_value.specs.declared.path.Fact.{Fact}
 use Rattle.tp_store.specs.Known.{facts_below}
-use Rattle.tp_store.specs.declared.copies.Which.TheVariants.{Below}
+use Rattle.tp_store.specs.declared.copies.AskedVariables.TheVariants.{Below}
 use Rattle.tp_store.specs.Wholes.{facts_of_value, whole_facts}
 use Rattle.tp_store.proofs.WholeValues.{variable_of, next_asked, next_not_asked, none_next, all_asked}
 use Rattle.tp_store.proofs.wholes.copy_wholes.Goals as goal

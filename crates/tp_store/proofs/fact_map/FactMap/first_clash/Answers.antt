@@ -2,7 +2,7 @@ use Rattle.std.proofs.Common.{◌++◌, List, ap, sym, ◌∙◌, subst, Some}
 use Rattle.std.specs.Option.{option_copied}
 use Rattle.tp_store.specs.Known.{NoClash, first_clash}
 use Rattle.tp_value.specs.declared.path.Fact.{Fact}
-use Rattle.tp_store.specs.declared.copies.Which.TheVariants.{Of}
+use Rattle.tp_store.specs.declared.copies.AskedVariables.TheVariants.{Of}
 use Rattle.tp_store.specs.FactMap.{FactsOfKind, facts_asked}
 use Rattle.tp_store.specs.Nodes.{facts_in_tree}
 use Rattle.tp_store.proofs.Clashes.{first_of_variable}
